@@ -1,0 +1,4 @@
+pub mod Tests
+pub mod Ascent
+pub mod Lent
+pub mod Bits
