@@ -2,7 +2,7 @@
 use Prim.Native.Nat.{ℕ, zero, suc, _+_, _*_, _/_, _%_, _^_, _≤_, _<_}
 use mathlib.Core.Path.{_≡_, refl, sym, ap, subst, _∙_}
 use mathlib.Core.Bool.{Bool, true, false}
-use native.Mathlib.Nat.{div-eq-of-lt, lt-of-lt-of-le, div-one, zero-mod, one-mul, div-lt-iff-lt-mul, le-refl}
+use native.Mathlib.Nat.{add-comm, div-eq-of-lt, lt-of-lt-of-le, div-one, zero-mod, one-mul, div-lt-iff-lt-mul, le-refl}
 use native.Mathlib.Numerals.{add-one, one-add}
 use native.Mathlib.Omega.{arith}
 use lib.Arith.{bin-ind, lt-one}
@@ -77,3 +77,7 @@ mask-below t (suc n) = go (t n) (mask-below t n)
     go : (b : Bool) → maskOf t n < 2 ^ n → asBit b * 2 ^ n + maskOf t n < 2 ^ suc n
     go true h = omega arith
     go false h = omega arith
+
+pub mask-more : (t : ℕ → Bool) (n : ℕ) → maskOf t n + asBit (t n) * 2 ^ n ≡ maskOf t (n + 1)
+unfolding maskOf
+mask-more t n = add-comm (maskOf t n) (asBit (t n) * 2 ^ n) ∙ ap (maskOf t) (sym (add-one n))

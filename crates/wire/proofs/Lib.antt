@@ -1,0 +1,5 @@
+pub mod Readings
+pub mod Writings
+pub mod Messages
+pub mod Cuts
+pub mod Determined

@@ -1,0 +1,6 @@
+pub mod Sizes
+pub mod Record
+pub mod Reader
+pub mod Writer
+pub mod Message
+pub mod Inbox
