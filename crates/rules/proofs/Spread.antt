@@ -105,10 +105,11 @@ module _ (run : Run) (P : Premises run) where
 
   -- The last round: what a correct node newly keeps for p in round f + 1, some correct node has sent by then, so every correct node other than p has it,
   -- or has two, after round f + 1.
-  pub last-round : (r i j p : ℕ) (v : Vote) → suc r ≡ run .f + 1 → p < run .n → Correct run i → Correct run j → j ≢ p → In v (newAt run (suc r) i p)
+  pub last-round : (r i j p : ℕ) (v : Vote) → r ≡ run .f + 1 → p < run .n → Correct run i → Correct run j → j ≢ p → In v (newAt run r i p)
       → Has (v .batch) (kept run (run .f + 1) j p)
-  unfolding shows
-  last-round r i j p v e lp ci cj np h = spread-sent (suc r) (c .0) j p (v .batch) (le-of-eq e) lp cc cj np its
+  unfolding shows newAt
+  last-round zero i j p v e lp ci cj np h = absurd h
+  last-round (suc r) i j p v e lp ci cj np h = spread-sent (suc r) (c .0) j p (v .batch) (le-of-eq e) lp cc cj np its
     where
       t : NewVote run r i p v
       t = new-vote run r i p v h
@@ -130,7 +131,7 @@ module _ (run : Run) (P : Premises run) where
       → Has b (kept run (run .f + 1) j p)
   spread i j p lp ci cj np b h =
       subst (λ (x : Batch). Has x (kept run (run .f + 1) j p)) (sym (o .says))
-      (⊎-elim (λ e. last-round (o .round) i j p (o .vote) e lp ci cj np (o .new))
+      (⊎-elim (λ e. last-round (suc (o .round)) i j p (o .vote) e lp ci cj np (o .new))
       (λ l. has-mono run j p (o .vote .batch) (suc (suc (o .round))) (run .f + 1) l (spreading (suc (o .round)) i j p (o .vote) (omega arith) lp ci cj np (o .new)))
       (eq-or-lt-of-le (o .before)))
     where

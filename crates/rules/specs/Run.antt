@@ -5,7 +5,7 @@ use mathlib.Core.Bool.{Bool}
 use mathlib.Core.List.{List, [], _∷_, _++_}
 use Rattle.rules.specs.Vote.{Batch, Vote, opened}
 use Rattle.rules.specs.Step.{keptMost, takenUp, newly, keptAfter, passesOn}
-use Rattle.rules.specs.Log.{decisions, Outcome, closed}
+use Rattle.rules.specs.Log.{decision, decisions, Outcome, closed}
 
 pub record Run : Type 0 where
   -- n nodes, of which f may be faulty
@@ -39,10 +39,9 @@ module _ (run : Run) where
   sent (suc zero) i = opened i (run .opening i) ∷ []
   sent (suc (suc r)) i = passesOn (run .n) (run .f) i (suc r) (kept r i) (votesAt (suc r) i)
 
-  -- node i's decisions after round f + 1
-  unfoldable pub decided : ℕ → List Batch
-  decided i = decisions (run .n) i (run .opening i) (kept (run .f + 1) i)
+  -- node i's decision for primary p, and its close, after round f + 1
+  unfoldable pub decides : ℕ → ℕ → Batch
+  decides i p = decision i (run .opening i) p (kept (run .f + 1) i p)
 
-  -- node i's close
   unfoldable pub newLog : ℕ → Outcome
-  newLog i = closed (run .old) (decided i)
+  newLog i = closed (run .old) (decisions (run .n) i (run .opening i) (kept (run .f + 1) i))
