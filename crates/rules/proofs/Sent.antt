@@ -1,9 +1,9 @@
 -- What a node keeps and sends, whatever it hears: kept batches add up, at most two different; a vote for another primary that a node sent is one by
 -- which it newly kept the batch in the round before; a vote for itself is its opening.
-use Prim.Native.Nat.{ℕ, zero, suc, _+_, _≤_, _<_}
+use Prim.Native.Nat.{ℕ, zero, suc, _≤_}
 use mathlib.Core.Path.{_≡_, refl, sym, ap, subst, _∙_}
-use mathlib.Core.Logic.{_≢_, _⊎_, inl, inr, ⊎-elim}
-use mathlib.Core.List.{List, [], _∷_, _++_}
+use mathlib.Core.Logic.{_≢_, ⊎-elim}
+use mathlib.Core.List.{_++_}
 use native.Mathlib.Nat.{le-refl, le-trans, le-suc}
 use native.Mathlib.Decide.{le-ind}
 use Rattle.laws.specs.Members.{In}

@@ -1,15 +1,14 @@
 -- Signing: correct nodes, which are more than f, sign one mark, so each finds f + 1 signers of it. And of f + 1 signers of any mark one is correct, so the
 -- mark is one that a correct node signed.
-use Prim.Native.Nat.{ℕ, _+_, _*_, _≤_, _<_}
+use Prim.Native.Nat.{ℕ, _+_, _≤_, _<_}
 use mathlib.Core.Path.{_≡_, refl, sym, ap, subst, _∙_}
-use mathlib.Core.Logic.{_≢_}
-use mathlib.Core.Bool.{Bool, true, false, not, _||_}
+use mathlib.Core.Bool.{Bool, true, false, not}
 use mathlib.Core.List.{List}
-use mathlib.Core.Option.{Option, none, some}
+use mathlib.Core.Option.{none, some}
 use native.Mathlib.Omega.{arith}
 use borrow.Author.Tests.{eqb-true, eqb-false, leb-true, le-leb, not-true}
 use lib.Count.{ones}
-use lib.Dec.{eqb, leb}
+use lib.Dec.{eqb}
 use Rattle.laws.specs.Masks.{count}
 use Rattle.laws.proofs.Tests.{clash}
 use Rattle.laws.proofs.Members.{same-eq, same-self}
@@ -18,7 +17,7 @@ use Rattle.rules.specs.Log.{made}
 use Rattle.rules.specs.Signers.{Mark, Slot, speaks, signer, signersOf, enough}
 use Rattle.rules.specs.Run.{Run, newLog}
 use Rattle.rules.specs.Premises.{Correct, Premises, Marked, Signing, Counting}
-use Rattle.rules.specs.Claim.{Signed, Demand3OverVotes}
+use Rattle.rules.specs.Claim.{Demand3OverVotes}
 use Rattle.rules.proofs.Logs.{same-log, one-log}
 
 speaks-some : (m : Mark) (s : Slot) → speaks m s ≡ true → s ≡ some m

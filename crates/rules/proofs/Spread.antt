@@ -1,16 +1,14 @@
 -- Spreading: who newly keeps a batch in round r is no witness of it yet, so what it passes on has r + 1 witnesses and is accepted by all in the next
 -- round. In the last round some witness is correct and is no new one, so the batch has spread before.
-use Prim.Native.Nat.{ℕ, zero, suc, _+_, _^_, _≤_, _<_, zero-le, suc-le-suc}
+use Prim.Native.Nat.{ℕ, zero, suc, _+_, _≤_, _<_, zero-le, suc-le-suc}
 use mathlib.Core.Path.{_≡_, refl, sym, ap, subst, _∙_}
-use mathlib.Core.Logic.{_≢_, _⊎_, inl, inr, ⊎-elim}
+use mathlib.Core.Logic.{_≢_, inl, ⊎-elim}
 use mathlib.Core.Bool.{Bool, true, false}
-use native.Mathlib.Nat.{le-refl, le-trans, le-suc, le-of-eq, eq-or-lt-of-le}
-use native.Mathlib.Numerals.{add-one}
+use native.Mathlib.Nat.{le-suc, le-of-eq, eq-or-lt-of-le}
 use native.Mathlib.Omega.{arith}
 use borrow.Author.Tests.{eqb-true, eqb-false}
 use lib.Count.{ones}
 use lib.Dec.{eqb}
-use Rattle.laws.specs.Masks.{count}
 use Rattle.laws.specs.Members.{In}
 use Rattle.laws.proofs.Bits.{ones-count}
 use Rattle.laws.proofs.Count.{Apart, more-pass}
@@ -21,7 +19,7 @@ use Rattle.rules.proofs.Votes.{passed-shows, passed-ones, accepts, open
 use Rattle.rules.proofs.Kept.{Has}
 use Rattle.rules.proofs.Newly.{after-has}
 use Rattle.rules.proofs.Inbox.{taken-in, passes-in}
-use Rattle.rules.proofs.Sent.{kept-mono, has-mono, new-kept, NewVote, new-vote, Origin, kept-origin, Relayed, sent-relayed, sent-opening}
+use Rattle.rules.proofs.Sent.{kept-mono, has-mono, new-kept, NewVote, new-vote, Origin, kept-origin, sent-relayed, sent-opening}
 use Rattle.rules.proofs.Shown.{Shown, votes-shown}
 
 module _ (run : Run) (P : Premises run) where

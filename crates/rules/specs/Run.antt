@@ -2,7 +2,7 @@
 -- whatever they hear.
 use Prim.Native.Nat.{ℕ, zero, suc, _+_}
 use mathlib.Core.Bool.{Bool}
-use mathlib.Core.List.{List, [], _∷_, _++_}
+use mathlib.Core.List.{List, [], _∷_}
 use Rattle.rules.specs.Vote.{Batch, Vote, opened}
 use Rattle.rules.specs.Step.{keptMost, takenUp, newly, keptAfter, passesOn}
 use Rattle.rules.specs.Log.{decision, decisions, Outcome, closed}
