@@ -41,12 +41,12 @@ module _ (run : Run) (P : Premises run) where
       go : (b : Bool) → run .faulty j ≡ b → Shown (suc r) v
       go true e =
           record {
-            range = P .anything (suc r) i j (suc-le-suc zero-le) l ci e v (t .heard-it);
-            shown = P .unforged (suc r) i j (suc-le-suc zero-le) l ci e v (t .heard-it);
+            range = P .anything (suc r) i j (suc-le-suc zero-le, l) ci e v (t .heard-it);
+            shown = P .unforged (suc r) i j (suc-le-suc zero-le, l) ci e v (t .heard-it);
           }
       go false e =
           let cj : Correct run j = record { node = t .node; fine = e } in
-          others j v cj (rw (P .whole (suc r) i j (suc-le-suc zero-le) l ci cj (λ q. t .other (sym q))) at (t .heard-it))
+          others j v cj (rw (P .whole (suc r) i j (suc-le-suc zero-le, l) ci cj (λ q. t .other (sym q))) at (t .heard-it))
 
   sent-shown : (r j : ℕ) (v : Vote) → r ≤ run .f + 1 → Correct run j → In v (sent run r j) → Shown r v
   unfolding sent opened newAt passedOn

@@ -28,7 +28,7 @@ module _ (run : Run) (P : Premises run) where
       → In w (sent run (suc r) i) → w .primary ≡ p → accepted (suc r) p w ≡ true → Has (w .batch) (kept run (suc r) j p)
   unfolding kept
   hears r i j p w l ci cj ne np h e a =
-      let k : In w (run .heard (suc r) j i) = rw (P .whole (suc r) j i (suc-le-suc zero-le) l cj ci (λ q. ne (sym q))) h in
+      let k : In w (run .heard (suc r) j i) = rw (P .whole (suc r) j i (suc-le-suc zero-le, l) cj ci (λ q. ne (sym q))) h in
       let t = taken-in (run .n) j (run .heard (suc r) j) i w (ci .node) ne (λ q. np (sym q ∙ e)) k in
       after-has (suc r) p (kept run r j p) (votesAt run (suc r) j) w t a
 

@@ -2,13 +2,13 @@
 use Prim.Native.Nat.{ℕ, suc, _≤_, _^_}
 use mathlib.Core.Path.{_≡_, refl, _∙_}
 use mathlib.Core.Logic.{_≢_}
-use mathlib.Core.Bool.{Bool, true, false}
+use mathlib.Core.Bool.{Bool, true, false, and-false}
 use native.Mathlib.Omega.{arith}
-use borrow.Author.Tests.{eqb-true, eqb-false, eq-eqb, leb-true, le-leb}
+use borrow.Author.Tests.{eqb-true, eqb-false, eq-eqb, leb-true, leb-false}
 use lib.Count.{ones}
 use lib.Dec.{eqb}
 use Rattle.laws.specs.Masks.{bit}
-use Rattle.laws.proofs.Tests.{clash, both}
+use Rattle.laws.proofs.Tests.{clash}
 use Rattle.laws.proofs.Count.{or-bit, own-bit, other-bit, ones-or, ones-own}
 use Rattle.rules.specs.Vote.{Batch, Vote, shows, opened, accepted, passedOn}
 
@@ -48,14 +48,26 @@ pub record Accepted (r p : ℕ) (v : Vote) : Type 0 where
 
 pub accepted-says : (r p : ℕ) (v : Vote) → accepted r p v ≡ true → Accepted r p v
 unfolding accepted
-accepted-says r p v h =
-    let t = both _ _ h in
-    let u = both _ _ (t .1) in
-    record { of = eqb-true (v .primary) p (t .0); bit-set = u .0; many = omega (arith, leb-true) }
+accepted-says r p v h = record { of = eqb-true (v .primary) p e; bit-set = s; many = let g = simp (e, s) at h in omega (arith, leb-true) }
+  where
+    -- a test holds, where the vote is not accepted without it
+    needed : (t : Bool) → (t ≡ false → accepted r p v ≡ false) → t ≡ true
+    needed true without = refl
+    needed false without = absurd (clash h (without refl))
+
+    e : eqb (v .primary) p ≡ true
+    e = needed (eqb (v .primary) p) (λ n. simp (n, accepted))
+
+    s : shows p v ≡ true
+    s = needed (shows p v) (λ n. simp (n, and-false, accepted))
 
 pub accepts : (r p : ℕ) (v : Vote) → v .primary ≡ p → shows p v ≡ true → r ≤ ones (v .mask) → accepted r p v ≡ true
 unfolding accepted
-accepts r p v e h k = simp (eq-eqb (v .primary) p e, h, le-leb r (ones (v .mask)) k)
+accepts r p v e h k = go (accepted r p v) refl
+  where
+    go : (t : Bool) → accepted r p v ≡ t → accepted r p v ≡ true
+    go true g = g
+    go false g = let x = simp (eq-eqb (v .primary) p e, h, accepted) at g in absurd (omega (arith, leb-false))
 
 -- ---- opened
 

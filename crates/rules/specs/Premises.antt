@@ -15,6 +15,10 @@ use Rattle.rules.specs.Log.{made}
 use Rattle.rules.specs.Signers.{Mark, Slot}
 use Rattle.rules.specs.Run.{Run, sent, newLog}
 
+-- a round of the run, 1 to f + 1
+abbrev pub Round : Run → ℕ → Type 0
+Round run r = (1 ≤ r) × (r ≤ run .f + 1)
+
 pub record Correct (run : Run) (i : ℕ) : Type 0 where
   pub node : i < run .n
   pub fine : run .faulty i ≡ false
@@ -36,11 +40,11 @@ pub record Premises (run : Run) : Type 0 where
   -- "all correct nodes on the same well-formed old log"
   pub well-formed : isLog (run .old) ≡ true
   -- "Messages among correct nodes arrive whole in their round."
-  pub whole : (r i j : ℕ) → 1 ≤ r → r ≤ run .f + 1 → Correct run i → Correct run j → i ≢ j → run .heard r i j ≡ sent run r j
+  pub whole : (r i j : ℕ) → Round run r → Correct run i → Correct run j → i ≢ j → run .heard r i j ≡ sent run r j
   -- "Faulty nodes send anything": what is read of it has no bit n or above
-  pub anything : (r i j : ℕ) → 1 ≤ r → r ≤ run .f + 1 → Correct run i → run .faulty j ≡ true → (v : Vote) → In v (run .heard r i j) → v .mask < 2 ^ run .n
+  pub anything : (r i j : ℕ) → Round run r → Correct run i → run .faulty j ≡ true → (v : Vote) → In v (run .heard r i j) → v .mask < 2 ^ run .n
   -- "but show a correct node's vote only if that node sent it this run, in that round or before"
-  pub unforged : (r i j : ℕ) → 1 ≤ r → r ≤ run .f + 1 → Correct run i → run .faulty j ≡ true → (v : Vote) → In v (run .heard r i j)
+  pub unforged : (r i j : ℕ) → Round run r → Correct run i → run .faulty j ≡ true → (v : Vote) → In v (run .heard r i j)
       → (c : ℕ) → Correct run c → shows c v ≡ true → HasSent run r c (v .primary) (v .batch)
 
 -- node j made a log, and m is its mark
