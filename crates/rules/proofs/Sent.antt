@@ -9,6 +9,7 @@ use native.Mathlib.Decide.{le-ind}
 use Rattle.laws.specs.Members.{In}
 use Rattle.laws.proofs.Members.{in-left, in-right, in-either, in-map, map-in}
 use Rattle.rules.specs.Vote.{Batch, Vote, batches, opened, passedOn}
+use Rattle.rules.specs.Step.{keptMost}
 use Rattle.rules.specs.Run.{Run, votesAt, kept, newAt, sent}
 use Rattle.rules.proofs.Votes.{Accepted, accepted-says}
 use Rattle.rules.proofs.Kept.{Few, Has, has-left}
@@ -28,7 +29,7 @@ module _ (run : Run) where
 
   pub has-mono : (i p : ℕ) (b : Batch) (r s : ℕ) → r ≤ s → Has b (kept run r i p) → Has b (kept run s i p)
   has-mono i p b r s l h =
-      le-ind (λ (m : ℕ). Has b (kept run m i p)) h (λ m k g. rw (kept-grows m i p) (has-left b (kept run m i p) (batches (newAt run (suc m) i p)) g)) s l
+      le-ind (λ (m : ℕ). Has b (kept run m i p)) h (λ m k g. rw (kept-grows m i p) (has-left keptMost b (kept run m i p) (batches (newAt run (suc m) i p)) g)) s l
 
   pub kept-few : (r i p : ℕ) → Few (kept run r i p)
   unfolding kept
@@ -52,7 +53,7 @@ module _ (run : Run) where
   pub new-vote : (r i p : ℕ) (v : Vote) → In v (newAt run (suc r) i p) → NewVote r i p v
   unfolding newAt
   new-vote r i p v h =
-      let t = newly-new (suc r) p (kept run r i p) (votesAt run (suc r) i) v h in
+      let t = newly-new keptMost (suc r) p (kept run r i p) (votesAt run (suc r) i) v h in
       let a = accepted-says (suc r) p v (t .taken) in
       let u = taken-of (run .n) i (run .heard (suc r) i) v (t .read) in
       record { read = t .read; taken = a; other = λ e. u .not-own (a .of ∙ e); new = t .new }

@@ -13,6 +13,7 @@ use Rattle.laws.specs.Members.{In}
 use Rattle.laws.proofs.Bits.{ones-count}
 use Rattle.laws.proofs.Count.{Apart, more-pass}
 use Rattle.rules.specs.Vote.{Batch, Vote, shows, opened, accepted, passedOn}
+use Rattle.rules.specs.Step.{keptMost}
 use Rattle.rules.specs.Run.{Run, votesAt, kept, newAt, sent}
 use Rattle.rules.specs.Premises.{Correct, HasSent, Premises}
 use Rattle.rules.proofs.Votes.{passed-shows, passed-ones, accepts, opened-accepted}
@@ -30,7 +31,7 @@ module _ (run : Run) (P : Premises run) where
   hears r i j p w l ci cj ne np h e a =
       let k : In w (run .heard (suc r) j i) = rw (P .whole (suc r) j i (suc-le-suc zero-le, l) cj ci (λ q. ne (sym q))) h in
       let t = taken-in (run .n) j (run .heard (suc r) j) i w (ci .node) ne (λ q. np (sym q ∙ e)) k in
-      after-has (suc r) p (kept run r j p) (votesAt run (suc r) j) w t a
+      after-has keptMost (suc r) p (kept run r j p) (votesAt run (suc r) j) w t a
 
   -- a node that newly keeps a batch was not among the vote's witnesses
   no-witness : (r i p : ℕ) (v : Vote) → suc r ≤ run .f + 1 → Correct run i → In v (newAt run (suc r) i p) → shows i v ≡ false

@@ -46,20 +46,28 @@ pub record Accepted (r p : ℕ) (v : Vote) : Type 0 where
   pub bit-set : shows p v ≡ true
   pub many : r ≤ ones (v .mask)
 
+-- a vote of another primary, or without the primary's bit, is not accepted
+of-another : (r p : ℕ) (v : Vote) → eqb (v .primary) p ≡ false → accepted r p v ≡ false
+unfolding accepted
+of-another r p v n = simp n
+
+without-the-bit : (r p : ℕ) (v : Vote) → shows p v ≡ false → accepted r p v ≡ false
+unfolding accepted
+without-the-bit r p v n = simp (n, and-false)
+
 pub accepted-says : (r p : ℕ) (v : Vote) → accepted r p v ≡ true → Accepted r p v
 unfolding accepted
 accepted-says r p v h = record { of = eqb-true (v .primary) p e; bit-set = s; many = let g = simp (e, s) at h in omega (arith, leb-true) }
   where
-    -- a test holds, where the vote is not accepted without it
     needed : (t : Bool) → (t ≡ false → accepted r p v ≡ false) → t ≡ true
     needed true without = refl
     needed false without = absurd (clash h (without refl))
 
     e : eqb (v .primary) p ≡ true
-    e = needed (eqb (v .primary) p) (λ n. simp (n, accepted))
+    e = needed (eqb (v .primary) p) (of-another r p v)
 
     s : shows p v ≡ true
-    s = needed (shows p v) (λ n. simp (n, and-false, accepted))
+    s = needed (shows p v) (without-the-bit r p v)
 
 pub accepts : (r p : ℕ) (v : Vote) → v .primary ≡ p → shows p v ≡ true → r ≤ ones (v .mask) → accepted r p v ≡ true
 unfolding accepted

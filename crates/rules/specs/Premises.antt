@@ -1,6 +1,6 @@
 -- "Take a run with at most f faulty nodes of n, n above 2f, all correct nodes on the same well-formed old log, stepping in order with room enough.
 -- Messages among correct nodes arrive whole in their round. Faulty nodes send anything, but show a correct node's vote only if that node sent it this run,
--- in that round or before."
+-- in that round or before." Order and room are matters of the calls.
 use Prim.Native.Nat.{ℕ, _+_, _*_, _^_, _≤_, _<_}
 use mathlib.Core.Path.{_≡_}
 use mathlib.Core.Logic.{_≢_}

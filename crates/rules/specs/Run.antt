@@ -16,32 +16,33 @@ pub record Run : Type 0 where
   pub opening : ℕ → Batch
   -- heard r i j: the votes that node i reads in round r in the message of sender j
   pub heard : ℕ → ℕ → ℕ → List Vote
+  -- the old log
   pub old : List ℕ
 
 module _ (run : Run) where
   -- the votes that node i takes up in round r
-  abbrev pub votesAt : ℕ → ℕ → List Vote
+  abbrev pub votesAt : (r i : ℕ) → List Vote
   votesAt r i = takenUp (run .n) i (run .heard r i)
 
   -- what node i has kept for primary p after round r
-  unfoldable pub kept : ℕ → ℕ → ℕ → List Batch
+  unfoldable pub kept : (r i p : ℕ) → List Batch
   kept zero i p = []
   kept (suc r) i p = keptAfter keptMost (suc r) p (kept r i p) (votesAt (suc r) i)
 
   -- the votes by which node i newly keeps batches for primary p in round r
-  unfoldable pub newAt : ℕ → ℕ → ℕ → List Vote
+  unfoldable pub newAt : (r i p : ℕ) → List Vote
   newAt zero i p = []
   newAt (suc r) i p = newly keptMost (suc r) p (kept r i p) (votesAt (suc r) i)
 
   -- what node i sends in round r
-  unfoldable pub sent : ℕ → ℕ → List Vote
+  unfoldable pub sent : (r i : ℕ) → List Vote
   sent zero i = []
   sent (suc zero) i = opened i (run .opening i) ∷ []
   sent (suc (suc r)) i = passesOn (run .n) (run .f) i (suc r) (kept r i) (votesAt (suc r) i)
 
   -- node i's decision for primary p, and its close, after round f + 1
-  unfoldable pub decides : ℕ → ℕ → Batch
+  unfoldable pub decides : (i p : ℕ) → Batch
   decides i p = decision i (run .opening i) p (kept (run .f + 1) i p)
 
-  unfoldable pub newLog : ℕ → Outcome
+  unfoldable pub newLog : (i : ℕ) → Outcome
   newLog i = closed (run .old) (decisions (run .n) i (run .opening i) (kept (run .f + 1) i))

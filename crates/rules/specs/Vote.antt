@@ -20,17 +20,17 @@ abbrev pub batches : List Vote → List Batch
 batches vs = map (λ (v : Vote). v .batch) vs
 
 -- node j is a witness: its bit is set
-unfoldable pub shows : ℕ → Vote → Bool
+unfoldable pub shows : (j : ℕ) (v : Vote) → Bool
 shows j v = eqb (bit (v .mask) j) 1
 
 -- "own number, own batch, own bit only"
-unfoldable pub opened : ℕ → Batch → Vote
+unfoldable pub opened : (me : ℕ) (own : Batch) → Vote
 opened me own = record { primary = me; mask = 2 ^ me; batch = own }
 
 -- "It accepts a vote when the primary's bit is set and at least r bits of the witness mask are set."
-unfoldable pub accepted : ℕ → ℕ → Vote → Bool
+unfoldable pub accepted : (r p : ℕ) (v : Vote) → Bool
 accepted r p v = eqb (v .primary) p && (shows p v && leb r (ones (v .mask)))
 
 -- "with the mask of the first accepted vote for it and the own bit added"
-unfoldable pub passedOn : ℕ → Vote → Vote
+unfoldable pub passedOn : (me : ℕ) (v : Vote) → Vote
 passedOn me v = record { primary = v .primary; mask = bitOr (v .mask) (2 ^ me); batch = v .batch }
