@@ -66,5 +66,5 @@ pub record Signing (run : Run) (mark : ℕ → Mark) (slots : ℕ → ℕ → Sl
 pub record Counting (run : Run) (mark : ℕ → Mark) (k : ℕ) (m : Mark) (slots : ℕ → Slot) : Type 0 where
   -- "each correct node that made a log signs that log's mark and no other", "a correct node without a log signs .. none"
   pub signs : (j : ℕ) (x : Mark) → Correct run j → slots j ≡ some x → Marked run mark j x
-  -- "and counts none"
+  -- "and counts none": one with a log counts that log's mark
   pub counts : Correct run k → Marked run mark k m
