@@ -49,7 +49,7 @@ one-bit : (m j : ℕ) → asBit (set m j) ≡ bit m j
 unfolding set
 one-bit m j = digit (bit m j) (omega arith)
 
-half-bit : (m j : ℕ) → m / 2 ^ suc j ≡ m / 2 / 2 ^ j
+pub half-bit : (m j : ℕ) → m / 2 ^ suc j ≡ m / 2 / 2 ^ j
 half-bit m j = ap (λ (x : ℕ). m / 2 ^ x) (sym (one-add j)) ∙ sym (shr-shr m 1 j)
 
 low-first : (m k : ℕ) → count (set m) (suc k) ≡ m % 2 + count (set (m / 2)) k
