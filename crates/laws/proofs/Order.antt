@@ -23,7 +23,7 @@ pub three-ways : (a b : ℕ) → (a < b) ⊎ ((a ≡ b) ⊎ (b < a))
 three-ways a b = ⊎-elim (λ l. inl l) (λ g. inr (⊎-elim (λ l. inr l) (λ h. inl (omega arith)) (lt-or-ge b a))) (lt-or-ge a b)
 
 -- what follows the first of an ascending list ascends
-pub rest-ascends : (x : ℕ) (xs : List ℕ) → ascendsFrom x xs ≡ true → ascends xs ≡ true
+rest-ascends : (x : ℕ) (xs : List ℕ) → ascendsFrom x xs ≡ true → ascends xs ≡ true
 rest-ascends x [] a = refl
 rest-ascends x (y ∷ ys) a = both (ltb x y) (ascendsFrom y ys) a .1
 

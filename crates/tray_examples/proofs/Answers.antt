@@ -11,7 +11,7 @@ use Rattle.rules.specs.Refusals.{done, ifDone}
 use Rattle.tray.specs.Trays.{trayWith, entriesOf, soundTray, trayOf}
 use Rattle.tray.specs.Put.{putNumber, Put}
 use Rattle.tray.specs.declared.Tray.{Tray}
-use Rattle.tray_examples.specs.Trays.{full, few}
+use Rattle.tray_examples.specs.Trays.{full, three}
 
 pub held-is-5 : putNumber full 30 ≡ 5
 unfolding putNumber soundTray isBatch
@@ -21,11 +21,11 @@ pub seventeenth-is-6 : putNumber full 35 ≡ 6
 unfolding putNumber soundTray isBatch
 seventeenth-is-6 = refl
 
-pub unsound-is-2 : putNumber (trayWith 3 (set (few .entries) 3 50)) 30 ≡ 2
+pub unsound-is-2 : putNumber (trayWith 3 (set (three .entries) 3 50)) 30 ≡ 2
 unfolding putNumber soundTray isBatch
 unsound-is-2 = refl
 
-pub new-is-done : putNumber few 30 ≡ done
+pub new-is-done : putNumber three 30 ≡ done
 unfolding putNumber soundTray isBatch
 new-is-done = refl
 

@@ -1,6 +1,6 @@
 // The tray's examples, run: each is a call whose answer the proof shows to be the expected one.
 ghost use mathlib.Core.Path.{_≡_};
-ghost use Rattle.tray_examples.specs.Trays.{full, few};
+ghost use Rattle.tray_examples.specs.Trays.{full, three};
 
 // The sixteen entries 10, 20, .. 160.
 fn full_tray() -> tray::Tray
@@ -31,7 +31,7 @@ fn full_tray() -> tray::Tray
 
 // The entries 10, 20 and 40.
 fn tray_of_three() -> tray::Tray
-    ensures { λ r. ⌜ r ≡ few ⌝ }
+    ensures { λ r. ⌜ r ≡ three ⌝ }
 {
     tray::Tray {
         count: 3,

@@ -3,7 +3,7 @@ use mathlib.Core.Path.{ap}
 use lib.ListN.{set}
 use Rattle.tray.specs.Trays.{trayWith}
 use Rattle.tray.specs.declared.Tray.{Tray}
-use Rattle.tray_examples.specs.Trays.{few}
+use Rattle.tray_examples.specs.Trays.{three}
 use Rattle.tray_examples.proofs.Answers.{answered, unsound-is-2}
 use borrow.Author.Needs.{needs}
 use Rattle.tray_examples.proofs.an_unsound_tray_is_2.Statement.{statement}
@@ -21,7 +21,7 @@ with-entry-requires c κs = search needs
 expect-requires : tie.Need-expect-requires
 expect-requires c κs =
     let same = ap (λ (t : Tray). trayWith (t .count) (set (t .entries) 3 50)) (c .before .before .tray-of-three .ensures) in
-    answered (c .before .with-entry .ensures) (trayWith 3 (set (few .entries) 3 50)) same 2 unsound-is-2
+    answered (c .before .with-entry .ensures) (trayWith 3 (set (three .entries) 3 50)) same 2 unsound-is-2
 
 returns : tie.Need-returns
 returns c = search needs
