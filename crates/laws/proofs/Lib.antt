@@ -1,7 +1,9 @@
 pub mod Tests
+pub mod Order
 pub mod Ascent
 pub mod Lent
 pub mod Bits
-pub mod Members
 pub mod Count
+pub mod Members
+pub mod Held
 pub mod Join
