@@ -79,9 +79,10 @@ pub entries-again : (k : ℕ) (s : List ℕ) → AreBytes s → entrySize * k �
 unfolding entriesOf entriesBytes
 entries-again zero s t l = refl
 entries-again (suc k) s t l =
-    let e : 8 + 8 * k ≡ 8 * suc k = omega arith in
-    ap₂ (λ (a b : List ℕ). a ++ b) (entry-again s t (omega arith)) (entries-again k (drop 8 s) (drop-bytes s 8 t) (omega (arith, length-drop 8 s)))
-    ∙ sym (take-add 8 (8 * k) s)
+    let r : List ℕ = drop entrySize s in
+    let e : entrySize + entrySize * k ≡ entrySize * suc k = omega arith in
+    ap₂ (λ (a b : List ℕ). a ++ b) (entry-again s t (omega arith)) (entries-again k r (drop-bytes s entrySize t) (omega (arith, length-drop entrySize s)))
+    ∙ sym (take-add entrySize (entrySize * k) s)
     ∙ ap (λ (j : ℕ). take j s) e
 
 entry-fits : (s : List ℕ) → AreBytes s → entryOf s < 2 ^ 64

@@ -5,3 +5,4 @@ pub mod Sayable
 pub mod Messages
 pub mod Inboxes
 pub mod Masks
+pub mod Claim

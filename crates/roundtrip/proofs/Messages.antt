@@ -1,12 +1,12 @@
 -- Messages: the votes of a message are the vote of its first record and those of the rest, so what holds of records holds of lists of them.
 use Prim.Native.Nat.{ℕ, zero, suc, _≤_, _<_}
 use mathlib.Core.Path.{_≡_, refl, sym, ap, ap₂, subst, _∙_}
-use mathlib.Core.Logic.{_↔_, ⊎-elim, inl, inr}
-use mathlib.Core.Bool.{Bool, true, false, cond}
+use mathlib.Core.Logic.{_⊎_, inl, inr, ⊎-elim, _↔_}
+use mathlib.Core.Bool.{Bool, true, false}
 use mathlib.Core.List.{List, [], _∷_, _++_, append-assoc, append-nil}
 use mathlib.Core.Option.{Option, none, some}
 use native.Mathlib.Omega.{arith}
-use borrow.Author.Tests.{leb-true}
+use borrow.Author.Tests.{leb-true, leb-false}
 use lib.Dec.{leb}
 use lib.ListN.{length, drop, length-drop, take-append-drop}
 use lib.Seq.{drop-append-seam}
@@ -19,7 +19,7 @@ use Rattle.wire.specs.Record.{sizeOf, voteOf, unreadable, recordBytes}
 use Rattle.wire.specs.Message.{before, votesAfter, votesOf, silent, messageBytes}
 use Rattle.wire.proofs.Messages.{one-more, stuck, none-left, short-enough, too-long}
 use Rattle.roundtrip.specs.Records.{Sayable}
-use Rattle.roundtrip.specs.Messages.{AllSayable, BytesOf, Messages}
+use Rattle.roundtrip.specs.Messages.{AllSayable, BytesOf, OneUnreadable, Messages}
 use Rattle.roundtrip.proofs.Entries.{drop-bytes}
 use Rattle.roundtrip.proofs.Records.{reads-back, record-again, vote-sayable}
 
@@ -43,6 +43,9 @@ unfolding joined
 none-joined [] = refl
 none-joined (v ∷ vs) = ap (before v) (none-joined vs)
 
+all-said : (n : ℕ) (vs : List Vote) → joined vs (votesAfter n 0 []) ≡ some vs
+all-said n vs = ap (joined vs) (none-left n [] refl) ∙ all-joined vs
+
 module _ (n : ℕ) (nodes : n ≤ nodesMost) where
   votes-first : (vs : List Vote) (rest : List ℕ) → AllSayable n vs → votesAfter n 0 (messageBytes vs ++ rest) ≡ joined vs (votesAfter n 0 rest)
   unfolding messageBytes joined
@@ -56,101 +59,136 @@ module _ (n : ℕ) (nodes : n ≤ nodesMost) where
       ∙ one-more n (recordBytes v ++ s) (b .reads)
       ∙ ap₂ before (b .vote) (ap (votesAfter n 0) next ∙ votes-first vs rest (λ w i. h w (inr i)))
 
-  pub reads-as : (vs : List Vote) → AllSayable n vs → length (messageBytes vs) ≤ messageMost → votesOf n (messageBytes vs) ≡ some vs
+  reads-as : (vs : List Vote) → AllSayable n vs → length (messageBytes vs) ≤ messageMost → votesOf n (messageBytes vs) ≡ some vs
   reads-as vs h l =
       short-enough n (messageBytes vs) l
       ∙ ap (votesAfter n 0) (sym (append-nil (messageBytes vs)))
       ∙ votes-first vs [] h
-      ∙ ap (joined vs) (none-left n [] refl)
-      ∙ all-joined vs
-
-  pub one-unreadable : (vs : List Vote) (rest : List ℕ) → AllSayable n vs → 0 < length rest → unreadable n rest ≡ true
-      → votesOf n (messageBytes vs ++ rest) ≡ none
-  unfolding votesOf
-  one-unreadable vs rest h l u = go (leb (length (messageBytes vs ++ rest)) messageMost)
-    where
-      go : (b : Bool) → cond b (votesAfter n 0 (messageBytes vs ++ rest)) none ≡ none
-      go true = votes-first vs rest h ∙ ap (joined vs) (stuck n rest l u) ∙ none-joined vs
-      go false = refl
+      ∙ all-said n vs
 
 -- ---- read and written
 
-before-some : (v : Vote) (o : Option (List Vote)) (vs : List Vote) → before v o ≡ some vs → (ws : List Vote) × (o ≡ some ws) × (vs ≡ v ∷ ws)
-before-some v none vs e = none-not-some e
-before-some v (some ws) vs e = (ws, refl, cc)
+-- nothing is left, or an unreadable record
+abbrev Ends : ℕ → List ℕ → Type 0
+Ends n rest = (rest ≡ []) ⊎ ((0 < length rest) × (unreadable n rest ≡ true))
 
--- what the bytes that read as some votes are
-record Holds (n : ℕ) (s : List ℕ) (vs : List Vote) : Type 0 where
-  bytes : messageBytes vs ≡ s
-  sayable : AllSayable n vs
+-- the votes of the first records, and what is left
+record Cut (n : ℕ) (s : List ℕ) : Type 0 where
+  votes : List Vote
+  rest : List ℕ
+  bytes : messageBytes votes ++ rest ≡ s
+  sayable : AllSayable n votes
+  ends : Ends n rest
 
-no-votes : (n : ℕ) (vs : List Vote) → votesAfter n 0 [] ≡ some vs → Holds n [] vs
-unfolding votesAfter messageBytes
-no-votes n vs e =
-    let q : vs ≡ [] = cc in
-    record { bytes = ap messageBytes q; sayable = subst (λ (ws : List Vote). AllSayable n ws) (sym q) (λ v i. absurd i) }
-
-first-vote : (n : ℕ) (s : List ℕ) (vs ws : List Vote) → AreBytes s → unreadable n s ≡ false → vs ≡ voteOf s ∷ ws → Holds n (drop (sizeOf s) s) ws
-    → Holds n s vs
+no-votes : (n : ℕ) (s : List ℕ) → Ends n s → Cut n s
 unfolding messageBytes
-first-vote n s vs ws t r q w =
+no-votes n s h = record { votes = []; rest = s; bytes = refl; sayable = λ v i. absurd i; ends = h }
+
+first-vote : (n : ℕ) (s : List ℕ) → AreBytes s → unreadable n s ≡ false → Cut n (drop (sizeOf s) s) → Cut n s
+unfolding messageBytes
+first-vote n s t r c =
     let say = vote-sayable n s t r in
     record {
-      bytes = ap messageBytes q ∙ ap₂ (λ (a b : List ℕ). a ++ b) (record-again n s t r) (w .bytes) ∙ take-append-drop (sizeOf s) s;
-      sayable = subst (λ (us : List Vote). AllSayable n us) (sym q)
-          (λ v i. ⊎-elim (λ e. subst (λ (u : Vote). Sayable n u) (sym e) say) (λ k. w .sayable v k) i);
+      votes = voteOf s ∷ c .votes;
+      rest = c .rest;
+      bytes = append-assoc (recordBytes (voteOf s)) (messageBytes (c .votes)) (c .rest)
+          ∙ ap₂ (λ (a b : List ℕ). a ++ b) (record-again n s t r) (c .bytes)
+          ∙ take-append-drop (sizeOf s) s;
+      sayable = λ v i. ⊎-elim (λ e. subst (λ (u : Vote). Sayable n u) (sym e) say) (λ k. c .sayable v k) i;
+      ends = c .ends;
     }
 
-by-first : (n : ℕ) (s : List ℕ) (vs : List Vote) (b : Bool) → AreBytes s → unreadable n s ≡ b → 0 < length s → votesAfter n 0 s ≡ some vs
-    → ((ws : List Vote) → votesAfter n 0 (drop (sizeOf s) s) ≡ some ws → Holds n (drop (sizeOf s) s) ws) → Holds n s vs
-by-first n s vs true t r h e rest = none-not-some (sym (stuck n s h r) ∙ e)
-by-first n s vs false t r h e rest =
-    let x = before-some (voteOf s) (votesAfter n 0 (drop (sizeOf s) s)) vs (sym (one-more n s r) ∙ e) in
-    first-vote n s vs (x .0) t r (x .2) (rest (x .0) (x .1))
+by-first : (n : ℕ) (s : List ℕ) (b : Bool) → AreBytes s → 0 < length s → unreadable n s ≡ b → Cut n (drop (sizeOf s) s) → Cut n s
+by-first n s true t h r rest = no-votes n s (inr (h, r))
+by-first n s false t h r rest = first-vote n s t r rest
 
 -- of at most f bytes
-votes-hold : (f n : ℕ) (s : List ℕ) (vs : List Vote) → length s ≤ f → AreBytes s → votesAfter n 0 s ≡ some vs → Holds n s vs
-votes-hold zero n [] vs l t e = no-votes n vs e
-votes-hold (suc f) n [] vs l t e = no-votes n vs e
-votes-hold zero n (b ∷ s) vs l t e = absurd (omega arith)
-votes-hold (suc f) n (b ∷ s) vs l t e =
+cut : (f n : ℕ) (s : List ℕ) → length s ≤ f → AreBytes s → Cut n s
+cut zero n [] l t = no-votes n [] (inl refl)
+cut zero n (b ∷ s) l t = absurd (omega arith)
+cut (suc f) n [] l t = no-votes n [] (inl refl)
+cut (suc f) n (b ∷ s) l t =
     let a : List ℕ = b ∷ s in
-    by-first n a vs (unreadable n a) t refl (omega arith) e
-    (λ ws g. votes-hold f n (drop (sizeOf a) a) ws (omega (arith, length-drop (sizeOf a) a)) (drop-bytes a (sizeOf a) t) g)
-
-short-by : (o : Option (List Vote)) (vs : List Vote) (b : Bool) → cond b o none ≡ some vs → (b ≡ true) × (o ≡ some vs)
-short-by o vs true e = (refl, e)
-short-by o vs false e = none-not-some e
-
-pub written-again : (n : ℕ) (s : List ℕ) (vs : List Vote) → AreBytes s → votesOf n s ≡ some vs → BytesOf n s vs
-unfolding votesOf
-written-again n s vs t e =
-    let x = short-by (votesAfter n 0 s) vs (leb (length s) messageMost) e in
-    let w = votes-hold (length s) n s vs (omega arith) t (x .1) in
-    record { bytes = w .bytes; sayable = w .sayable; short = leb-true _ _ (x .0) }
-
--- ---- exactly
+    by-first n a (unreadable n a) t (omega arith) refl
+    (cut f n (drop (sizeOf a) a) (omega (arith, length-drop (sizeOf a) a)) (drop-bytes a (sizeOf a) t))
 
 module _ (n : ℕ) (nodes : n ≤ nodesMost) (s : List ℕ) where
-  reads-bytes : (vs : List Vote) → BytesOf n s vs → votesOf n s ≡ some vs
-  reads-bytes vs w = ap (votesOf n) (sym (w .bytes)) ∙ reads-as n nodes vs (w .sayable) (subst (λ (u : List ℕ). length u ≤ messageMost) (sym (w .bytes)) (w .short))
+  module _ (c : Cut n s) where
+    votes-are : votesAfter n 0 s ≡ joined (c .votes) (votesAfter n 0 (c .rest))
+    votes-are = ap (votesAfter n 0) (sym (c .bytes)) ∙ votes-first n nodes (c .votes) (c .rest) (c .sayable)
 
-  pub no-other : (vs ws : List Vote) → BytesOf n s vs → BytesOf n s ws → vs ≡ ws
+    -- nothing is left
+    all-read : c .rest ≡ [] → votesAfter n 0 s ≡ some (c .votes)
+    all-read e = votes-are ∙ ap (λ (u : List ℕ). joined (c .votes) (votesAfter n 0 u)) e ∙ all-said n (c .votes)
+
+    all-bytes : c .rest ≡ [] → messageBytes (c .votes) ≡ s
+    all-bytes e = sym (append-nil (messageBytes (c .votes))) ∙ ap (λ (u : List ℕ). messageBytes (c .votes) ++ u) (sym e) ∙ c .bytes
+
+    -- an unreadable record is left
+    none-read : 0 < length (c .rest) → unreadable n (c .rest) ≡ true → votesAfter n 0 s ≡ none
+    none-read l u = votes-are ∙ ap (joined (c .votes)) (stuck n (c .rest) l u) ∙ none-joined (c .votes)
+
+    again-by : (vs : List Vote) → length s ≤ messageMost → votesAfter n 0 s ≡ some vs → Ends n (c .rest) → BytesOf n s vs
+    again-by vs l e (inl q) =
+        let g : c .votes ≡ vs = let f = sym (all-read q) ∙ e in cc in
+        subst (λ (us : List Vote). BytesOf n s us) g (record { bytes = all-bytes q; sayable = c .sayable; short = l })
+    again-by vs l e (inr q) = none-not-some (sym (none-read (q .0) (q .1)) ∙ e)
+
+    stuck-by : votesAfter n 0 s ≡ none → Ends n (c .rest) → OneUnreadable n s
+    stuck-by e (inl q) = none-not-some (sym e ∙ all-read q)
+    stuck-by e (inr q) =
+        record { votes = c .votes; rest = c .rest; bytes = c .bytes; sayable = c .sayable; left = q .0; not-read = q .1 }
+
+  -- within the limit or not
+  abbrev Limit : Type 0
+  Limit = ((length s ≤ messageMost) × (votesOf n s ≡ votesAfter n 0 s)) ⊎ ((messageMost < length s) × (votesOf n s ≡ none))
+
+  by-length : (b : Bool) → leb (length s) messageMost ≡ b → Limit
+  by-length true e = let l = leb-true _ _ e in inl (l, short-enough n s l)
+  by-length false e = let l = leb-false _ _ e in inr (l, too-long n s l)
+
+  limit : Limit
+  limit = by-length (leb (length s) messageMost) refl
+
+  -- ---- exactly
+
+  reads-bytes : (vs : List Vote) → BytesOf n s vs → votesOf n s ≡ some vs
+  reads-bytes vs w =
+      ap (votesOf n) (sym (w .bytes)) ∙ reads-as n nodes vs (w .sayable) (subst (λ (u : List ℕ). length u ≤ messageMost) (sym (w .bytes)) (w .short))
+
+  no-other : (vs ws : List Vote) → BytesOf n s vs → BytesOf n s ws → vs ≡ ws
   no-other vs ws v w = let e = sym (reads-bytes vs v) ∙ reads-bytes ws w in cc
 
-  heard : AreBytes s → (o : Option (List Vote)) → votesOf n s ≡ o → silent o ≡ false → (vs : List Vote) × BytesOf n s vs
-  heard t none e h = absurd (clash refl h)
-  heard t (some vs) e h = (vs, written-again n s vs t e)
+  not-read : OneUnreadable n s → votesOf n s ≡ none
+  not-read w =
+      let c : Cut n s = record { votes = w .votes; rest = w .rest; bytes = w .bytes; sayable = w .sayable; ends = inr (w .left, w .not-read) } in
+      ⊎-elim (λ l. l .1 ∙ none-read c (w .left) (w .not-read)) (λ l. l .1) limit
 
-  pub readable : AreBytes s → (silent (votesOf n s) ≡ false) ↔ ((vs : List Vote) × BytesOf n s vs)
-  readable t = (heard t (votesOf n s) refl, λ w. ap silent (reads-bytes (w .0) (w .1)))
+  module _ (t : AreBytes s) where
+    whole-cut : Cut n s
+    whole-cut = cut (length s) n s (omega arith) t
+
+    written-again : (vs : List Vote) → votesOf n s ≡ some vs → BytesOf n s vs
+    written-again vs e = ⊎-elim (λ l. again-by whole-cut vs (l .0) (sym (l .1) ∙ e) (whole-cut .ends)) (λ l. none-not-some (sym (l .1) ∙ e)) limit
+
+    heard : (o : Option (List Vote)) → votesOf n s ≡ o → silent o ≡ false → (vs : List Vote) × BytesOf n s vs
+    heard none e h = absurd (clash refl h)
+    heard (some vs) e h = (vs, written-again vs e)
+
+    readable : (silent (votesOf n s) ≡ false) ↔ ((vs : List Vote) × BytesOf n s vs)
+    readable = (heard (votesOf n s) refl, λ w. ap silent (reads-bytes (w .0) (w .1)))
+
+    found : votesOf n s ≡ none → (messageMost < length s) ⊎ OneUnreadable n s
+    found e = ⊎-elim (λ l. inr (stuck-by whole-cut (sym (l .1) ∙ e) (whole-cut .ends))) (λ l. inl (l .0)) limit
+
+    is-unreadable : (votesOf n s ≡ none) ↔ ((messageMost < length s) ⊎ OneUnreadable n s)
+    is-unreadable = (found, λ h. ⊎-elim (too-long n s) not-read h)
 
 pub messages : (n : ℕ) → n ≤ nodesMost → Messages n
 messages n nodes = record {
   read-back = reads-as n nodes;
-  written-again = written-again n;
+  written-again = λ s vs t e. written-again n nodes s t vs e;
   readable = readable n nodes;
   no-other = no-other n nodes;
-  too-long = too-long n;
-  one-unreadable = one-unreadable n nodes;
+  is-unreadable = is-unreadable n nodes;
 }

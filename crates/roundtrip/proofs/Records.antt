@@ -15,7 +15,6 @@ use Rattle.rules.specs.Sizes.{nodesMost, batchMost, isBatch}
 use Rattle.rules.specs.Vote.{Vote}
 use Rattle.entries.specs.Bytes.{entrySize, entriesOf, entriesBytes, AreBytes}
 use Rattle.entries.proofs.Reading.{entries-count}
-use Rattle.entries.proofs.Writing.{entries-length}
 use Rattle.wire.specs.Sizes.{headSize, recordMost}
 use Rattle.wire.specs.Record.{countOf, sizeOf, voteOf, unreadable, recordBytes}
 use Rattle.wire.specs.Writer.{sayable}
@@ -93,7 +92,7 @@ head-again a b c d r hc hd t l =
 
 again : (s : List ℕ) → AreBytes s → headSize ≤ length s → sizeOf s ≤ length s → recordBytes (voteOf s) ≡ take (sizeOf s) s
 again (a ∷ b ∷ c ∷ d ∷ r) t l k =
-    head-again a b c d r (t 2) (t 3) (λ i. t (suc (suc (suc (suc i))))) (omega arith) ∙ sym (take-add 4 (8 * b) (a ∷ b ∷ c ∷ d ∷ r))
+    head-again a b c d r (t 2) (t 3) (λ i. t (suc (suc (suc (suc i))))) (omega arith) ∙ sym (take-add headSize (entrySize * b) (a ∷ b ∷ c ∷ d ∷ r))
 again [] t l k = absurd (omega arith)
 again (a ∷ []) t l k = absurd (omega arith)
 again (a ∷ b ∷ []) t l k = absurd (omega arith)

@@ -1,6 +1,6 @@
 -- Refusal 2: a vote that passes the writer's test is said by its own record, and what a readable record says passes the test; so the test decides
 -- whether some record readable at n says the vote.
-use Prim.Native.Nat.{ℕ, _≤_}
+use Prim.Native.Nat.{ℕ}
 use mathlib.Core.Path.{_≡_, refl, sym, ap, _∙_}
 use mathlib.Core.Logic.{_↔_}
 use mathlib.Core.Bool.{Bool, true, false}

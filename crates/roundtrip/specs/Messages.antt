@@ -1,7 +1,7 @@
 -- A message written reads back as its votes, and a message read is written again.
 use Prim.Native.Nat.{ℕ, _≤_, _<_}
 use mathlib.Core.Path.{_≡_}
-use mathlib.Core.Logic.{_↔_}
+use mathlib.Core.Logic.{_⊎_, _↔_}
 use mathlib.Core.Bool.{true, false}
 use mathlib.Core.List.{List, _++_}
 use mathlib.Core.Option.{none, some}
@@ -23,6 +23,15 @@ pub record BytesOf (n : ℕ) (s : List ℕ) (vs : List Vote) : Type 0 where
   pub sayable : AllSayable n vs
   pub short : length s ≤ messageMost
 
+-- the votes of its first records, and then an unreadable one
+pub record OneUnreadable (n : ℕ) (s : List ℕ) : Type 0 where
+  pub votes : List Vote
+  pub rest : List ℕ
+  pub bytes : messageBytes votes ++ rest ≡ s
+  pub sayable : AllSayable n votes
+  pub left : 0 < length rest
+  pub not-read : unreadable n rest ≡ true
+
 pub record Messages (n : ℕ) : Type 0 where
   -- whole messages written read back as the same votes
   pub read-back : (vs : List Vote) → AllSayable n vs → length (messageBytes vs) ≤ messageMost → votesOf n (messageBytes vs) ≡ some vs
@@ -32,6 +41,4 @@ pub record Messages (n : ℕ) : Type 0 where
   pub readable : (s : List ℕ) → AreBytes s → (silent (votesOf n s) ≡ false) ↔ ((vs : List Vote) × BytesOf n s vs)
   pub no-other : (s : List ℕ) (vs ws : List Vote) → BytesOf n s vs → BytesOf n s ws → vs ≡ ws
   -- "A message over 3,960 bytes, or with one unreadable record, is unreadable and counts wholly as silence."
-  pub too-long : (s : List ℕ) → messageMost < length s → votesOf n s ≡ none
-  pub one-unreadable : (vs : List Vote) (rest : List ℕ) → AllSayable n vs → 0 < length rest → unreadable n rest ≡ true
-      → votesOf n (messageBytes vs ++ rest) ≡ none
+  pub is-unreadable : (s : List ℕ) → AreBytes s → (votesOf n s ≡ none) ↔ ((messageMost < length s) ⊎ OneUnreadable n s)

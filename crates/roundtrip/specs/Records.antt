@@ -41,4 +41,4 @@ pub record Records (n : ℕ) : Type 0 where
   -- the writer's test decides whether some record readable at n says the vote
   pub decided : (v : Vote) → AreEntries (v .batch) → (sayable n v ≡ true) ↔ Says n v
   -- 2: "no record readable at the handed n says the vote to be written"
-  pub refused : (v : Vote) (room : ℕ) → AreEntries (v .batch) → (writeNumber n v room ≡ 2) ↔ (Says n v → ⊥)
+  pub refused : (v : Vote) → AreEntries (v .batch) → (room : ℕ) → (writeNumber n v room ≡ 2) ↔ (Says n v → ⊥)
