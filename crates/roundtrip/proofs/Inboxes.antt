@@ -16,13 +16,13 @@ use Rattle.laws.specs.Masks.{bit, asBit}
 use Rattle.laws.specs.Members.{In}
 use Rattle.laws.proofs.Tests.{clash, both}
 use Rattle.laws.proofs.Bits.{mask-bit}
+use Rattle.laws.proofs.Pairs.{pair-back, low-again, high-again}
 use Rattle.rules.specs.Vote.{Vote}
 use Rattle.entries.specs.Bytes.{AreBytes}
 use Rattle.wire.specs.Sizes.{lengthSize}
 use Rattle.wire.specs.Message.{votesOf, silent}
 use Rattle.wire.specs.Inbox.{lengthAt, endAt, placeOf, messageOf, wellCut, inboxBytes, isUnreadable, unreadableSenders}
 use Rattle.roundtrip.specs.Inboxes.{messages, Fit, Inboxes}
-use Rattle.roundtrip.proofs.Pairs.{pair-back, low-again, high-again}
 use Rattle.roundtrip.proofs.Entries.{drop-bytes}
 
 -- no message is too long for its two length bytes

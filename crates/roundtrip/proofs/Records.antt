@@ -1,43 +1,26 @@
 -- Records: the head's four bytes tell the vote's numbers, a mask of at most 16 nodes comes back from its two bytes and the entries from theirs.
 use Prim.Native.Nat.{ℕ, zero, suc, _+_, _*_, _/_, _%_, _^_, _≤_, _<_}
 use mathlib.Core.Path.{_≡_, sym, ap, _∙_}
-use mathlib.Core.Bool.{true, false}
+use mathlib.Core.Bool.{false}
 use mathlib.Core.List.{List, [], _∷_, _++_}
 use native.Mathlib.Omega.{arith}
-use borrow.Author.Tests.{lt-leb, ltb-true, leb-true}
+use borrow.Author.Tests.{lt-leb}
 use lib.Dec.{leb}
 use lib.ListN.{length, take, drop, length-append}
 use lib.Pow.{pow-mono}
 use lib.Seq.{take-add}
 use Rattle.laws.specs.Order.{ascends}
-use Rattle.laws.proofs.Tests.{both}
-use Rattle.rules.specs.Sizes.{nodesMost, batchMost, isBatch}
+use Rattle.laws.proofs.Pairs.{pair-back, low-again, high-again}
+use Rattle.rules.specs.Sizes.{nodesMost}
 use Rattle.rules.specs.Vote.{Vote}
 use Rattle.entries.specs.Bytes.{entrySize, entriesOf, entriesBytes, AreBytes}
 use Rattle.entries.proofs.Reading.{entries-count}
 use Rattle.wire.specs.Sizes.{headSize, recordMost}
 use Rattle.wire.specs.Record.{countOf, sizeOf, voteOf, unreadable, recordBytes}
-use Rattle.wire.specs.Writer.{sayable}
 use Rattle.wire.proofs.Readings.{readable-whole, whole-readable}
-use Rattle.wire.proofs.Writings.{record-length, can-say}
+use Rattle.wire.proofs.Writings.{record-length, can-say, said}
 use Rattle.roundtrip.specs.Records.{Sayable, ReadBack}
-use Rattle.roundtrip.proofs.Pairs.{pair-back, low-again, high-again}
 use Rattle.roundtrip.proofs.Entries.{entries-back, entries-bytes, entries-again, entries-fit, drop-bytes}
-
--- the facts of a vote that passes the writer's test
-record Said (n : ℕ) (v : Vote) : Type 0 where
-  primary : v .primary < n
-  mask : v .mask < 2 ^ n
-  few : length (v .batch) ≤ batchMost
-  order : ascends (v .batch) ≡ true
-
-said : (n : ℕ) (v : Vote) → sayable n v ≡ true → Said n v
-unfolding sayable isBatch
-said n v h =
-    let a = both _ _ h in
-    let b = both _ _ (a .1) in
-    let c = both _ _ (b .1) in
-    record { primary = ltb-true _ _ (a .0); mask = ltb-true _ _ (b .0); few = leb-true _ _ (c .0); order = c .1 }
 
 -- ---- written and read
 

@@ -24,11 +24,11 @@ pub record Fit (n : ℕ) (ms : List (List ℕ)) : Type 0 where
   pub short : (m : List ℕ) → In m ms → length m < 2 ^ (8 * lengthSize)
 
 pub record Inboxes (n : ℕ) : Type 0 where
-  -- "n messages below 65,536 bytes put together as an inbox cut back into the same n messages"
+  -- n messages below 65,536 bytes put together as an inbox cut back into the same n messages
   pub cut-back : (ms : List (List ℕ)) → Fit n ms → wellCut n (inboxBytes ms) ≡ true
   pub same-message : (ms : List (List ℕ)) → Fit n ms → (j : ℕ) → j < n → messageOf (inboxBytes ms) j ≡ getD ms j []
   pub same-messages : (ms : List (List ℕ)) → Fit n ms → messages n (inboxBytes ms) ≡ ms
-  -- "A well-cut inbox put together again from its messages has the same bytes."
+  -- a well-cut inbox put together again from its messages has the same bytes
   pub together-again : (s : List ℕ) → AreBytes s → wellCut n s ≡ true → inboxBytes (messages n s) ≡ s
   -- "a mask of the senders whose message was unreadable, never the own bit"
   pub unreadable-bit : (me : ℕ) (s : List ℕ) (j : ℕ)

@@ -33,11 +33,11 @@ pub record OneUnreadable (n : ℕ) (s : List ℕ) : Type 0 where
   pub not-read : unreadable n rest ≡ true
 
 pub record Messages (n : ℕ) : Type 0 where
-  -- whole messages written read back as the same votes
+  -- a message written reads back as the same votes
   pub read-back : (vs : List Vote) → AllSayable n vs → length (messageBytes vs) ≤ messageMost → votesOf n (messageBytes vs) ≡ some vs
-  -- and readable ones, written again from their votes, give the same bytes
+  -- a readable message written again from its votes gives the same bytes
   pub written-again : (s : List ℕ) (vs : List Vote) → AreBytes s → votesOf n s ≡ some vs → BytesOf n s vs
-  -- "A message is readable exactly when it is the bytes of one list of sayable votes within the limit, and of no other list."
+  -- a message is readable exactly when it is the bytes of one list of sayable votes within the limit, and of no other list
   pub readable : (s : List ℕ) → AreBytes s → (silent (votesOf n s) ≡ false) ↔ ((vs : List Vote) × BytesOf n s vs)
   pub no-other : (s : List ℕ) (vs ws : List Vote) → BytesOf n s vs → BytesOf n s ws → vs ≡ ws
   -- "A message over 3,960 bytes, or with one unreadable record, is unreadable and counts wholly as silence."

@@ -11,7 +11,7 @@ use Rattle.wire.specs.Sizes.{recordMost}
 use Rattle.wire.specs.Record.{sizeOf, voteOf, unreadable, recordBytes}
 use Rattle.wire.specs.Writer.{sayable, writeNumber}
 
--- the vote passes the writer's test at n, and "an entry is a 64-bit number"
+-- the vote passes the writer's test at n; "An entry is a 64-bit number"
 pub record Sayable (n : ℕ) (v : Vote) : Type 0 where
   pub test : sayable n v ≡ true
   pub entries : AreEntries (v .batch)
@@ -30,12 +30,12 @@ pub record ReadBack (n : ℕ) (v : Vote) (rest : List ℕ) : Type 0 where
   pub size : sizeOf (recordBytes v ++ rest) ≡ length (recordBytes v)
 
 pub record Records (n : ℕ) : Type 0 where
-  -- "A record written reads back as the same vote with any bytes after it."
+  -- a record written reads back as the same vote with any bytes after it
   pub read-back : (v : Vote) (rest : List ℕ) → Sayable n v → ReadBack n v rest
   -- what is written is bytes, at most 132
   pub are-bytes : (v : Vote) → Sayable n v → AreBytes (recordBytes v)
   pub at-most : (v : Vote) → Sayable n v → length (recordBytes v) ≤ recordMost
-  -- "A readable record written again from its vote gives the same bytes."
+  -- a readable record written again from its vote gives the same bytes, and its vote can be written
   pub written-again : (s : List ℕ) → AreBytes s → unreadable n s ≡ false → recordBytes (voteOf s) ≡ take (sizeOf s) s
   pub vote-sayable : (s : List ℕ) → AreBytes s → unreadable n s ≡ false → Sayable n (voteOf s)
   -- the writer's test decides whether some record readable at n says the vote
