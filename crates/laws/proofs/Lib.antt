@@ -3,6 +3,7 @@ pub mod Order
 pub mod Ascent
 pub mod Lent
 pub mod Bits
+pub mod Pairs
 pub mod Count
 pub mod Members
 pub mod Held
