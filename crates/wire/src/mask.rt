@@ -6,7 +6,7 @@ ghost use lib.Dec.{leb};
 use rules::NODES_MOST;
 
 // Whether the mask has no bit n or above.
-pub fn fits(n: usize, mask: u16) -> bool
+pub(crate) fn fits(n: usize, mask: u16) -> bool
     ensures { λ r. ⌜ r ≡ not (leb (2 ^ n) mask) ⌝ }
 {
     if NODES_MOST <= n {
