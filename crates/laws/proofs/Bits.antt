@@ -8,6 +8,7 @@ use native.Mathlib.Omega.{arith}
 use lib.Arith.{bin-ind, lt-one}
 use lib.Count.{ones, ones-step}
 use lib.Dec.{eqb, lit<}
+use mir.Val.{boolByte}
 use lib.Pow.{pow-mono, shr-lt, shr-shr, pow-pos, shl-exact}
 use Rattle.laws.specs.Masks.{bit, asBit, count, maskOf}
 
@@ -81,3 +82,11 @@ mask-below t (suc n) = go (t n) (mask-below t n)
 pub mask-more : (t : ℕ → Bool) (n : ℕ) → maskOf t n + asBit (t n) * 2 ^ n ≡ maskOf t (n + 1)
 unfolding maskOf
 mask-more t n = add-comm (maskOf t n) (asBit (t n) * 2 ^ n) ∙ ap (maskOf t) (sym (add-one n))
+
+pub mask-within : (t : ℕ → Bool) (n w : ℕ) → n ≤ w → maskOf t n < 2 ^ w
+mask-within t n w h = lt-of-lt-of-le (mask-below t n) (pow-mono h)
+
+-- a test as a bit, shifted up within w bits
+pub shifted-bit : (t : Bool) (j w : ℕ) → j < w → (boolByte t * 2 ^ j) % 2 ^ w ≡ asBit t * 2 ^ j
+shifted-bit true j w h = shl-exact 1 j w (lit< tt) (omega arith)
+shifted-bit false j w h = shl-exact 1 j w (lit< tt) (omega arith)
