@@ -2,10 +2,13 @@
 use Prim.Native.Nat.{ℕ, _*_, _≤_, _<_}
 use mathlib.Core.Path.{_≡_}
 use mathlib.Core.Bool.{true, false, and-false, _&&_}
-use borrow.Author.Tests.{leb-true, ltb-true, lt-ltb, le-ltb}
+use mathlib.Core.List.{List}
+use borrow.Author.Tests.{leb-true, ltb-true, lt-ltb, le-ltb, le-leb, lt-leb}
 use lib.Dec.{ltb, leb}
+use lib.ListN.{length}
+use Rattle.laws.specs.Order.{ascends}
 use Rattle.laws.proofs.Tests.{both}
-use Rattle.rules.specs.Sizes.{nodesMost, sized, sizes}
+use Rattle.rules.specs.Sizes.{nodesMost, logMost, sized, sizes, fits, isLog}
 
 pub sized-most : (n : ℕ) → sized n ≡ true → n ≤ nodesMost
 unfolding sized
@@ -40,3 +43,18 @@ sizes-told n f me h =
     let p = both (sized n) (ltb (2 * f) n && ltb me n) h in
     let q = both (ltb (2 * f) n) (ltb me n) (p .1) in
     record { nodes = p .0; most = sized-most n (p .0); half = ltb-true (2 * f) n (q .0); node = ltb-true me n (q .1) }
+
+-- ---- the test of a log
+
+module _ (es : List ℕ) where
+  pub too-long : logMost < length es → isLog es ≡ false
+  unfolding isLog fits
+  too-long h = simp (lt-leb _ _ h)
+
+  pub not-too-long : length es ≤ logMost → isLog es ≡ ascends es
+  unfolding isLog fits
+  not-too-long h = simp (le-leb _ _ h)
+
+  pub log-most : isLog es ≡ true → length es ≤ logMost
+  unfolding isLog fits
+  log-most h = leb-true _ _ (both (fits es) (ascends es) h .0)
