@@ -13,7 +13,7 @@ use Rattle.laws.specs.Members.{same}
 use Rattle.laws.proofs.Bits.{mask-more, mask-within, shifted-bit}
 use Rattle.rules.specs.Sizes.{nodesMost}
 use Rattle.rules.specs.Signers.{Mark, speaks, signer}
-use Rattle.signing.specs.Slots.{slotSize, speaking, slotIn, slotOf}
+use Rattle.signing.specs.Slots.{markSize, slotSize, speaking, slotIn, slotOf}
 
 module _ (bytes : List ℕ) (mark : Mark) where
   pub silence : getD bytes 0 0 ≢ speaking → speaks mark (slotIn bytes) ≡ false
@@ -23,7 +23,7 @@ module _ (bytes : List ℕ) (mark : Mark) where
   pub speech : length bytes ≡ slotSize → getD bytes 0 0 ≡ speaking → speaks mark (slotIn bytes) ≡ same (take (length bytes - 1) (drop 1 bytes)) mark
   unfolding slotIn
   speech l h =
-      let e : 32 ≡ length bytes - 1 = omega arith in
+      let e : markSize ≡ length bytes - 1 = omega arith in
       simp (eq-eqb _ _ h) (ap (λ (k : ℕ). same (take k (drop 1 bytes)) mark) e)
 
 module _ (me : ℕ) (mark : Mark) (slots : List ℕ) (j : ℕ) where
@@ -36,7 +36,7 @@ module _ (me : ℕ) (mark : Mark) (slots : List ℕ) (j : ℕ) where
       → signer me mark (slotOf slots) j ≡ speaks mark (slotIn (take (end - start) (drop start slots)))
   unfolding signer
   other-signs start end h s e =
-      let k : 33 ≡ end - start = omega arith in
+      let k : slotSize ≡ end - start = omega arith in
       simp (ne-eqb j me h) (ap₂ (λ (x y : ℕ). speaks mark (slotIn (take x (drop y slots)))) k (sym s))
 
   -- one turn: its bit joins the mask of those before it

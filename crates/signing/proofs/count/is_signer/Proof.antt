@@ -10,7 +10,7 @@ use Rattle.signing.proofs.count.is_signer.Tie as tie
 returns : tie.Need-returns
 returns c =
     let a = c .before .before .args in
-    sym (own-signs (a .me) (now (a .mark)) (now (a .slots)) (a .j) (c .if1 .taken))
+    sym (own-signs (a .me) (now (a .mark)) (now (a .slots)) (a .j) (omega arith))
 
 mul-start : tie.Need-mul-start
 mul-start c = search needs
@@ -33,7 +33,7 @@ speaks-with-requires c κs = search needs
 returns-2 : tie.Need-returns-2
 returns-2 c =
     let a = c .before .before .before .before .args in
-    c .speaks-with .ensures ∙ sym (other-signs (a .me) (now (a .mark)) (now (a .slots)) (a .j) _ _ (c .before .before .if1 .left) refl refl)
+    c .speaks-with .ensures ∙ sym (other-signs (a .me) (now (a .mark)) (now (a .slots)) (a .j) _ _ (λ e. omega arith) refl refl)
 
 pub is-signer-spec : {M : Type 1} → statement M
 is-signer-spec =

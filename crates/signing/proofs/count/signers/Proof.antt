@@ -34,13 +34,13 @@ returns-2 : tie.Need-returns-2
 returns-2 c =
     let a = c .before .before .before .before .before .args in
     let s = sym (c .before .before .before .are-sizes .ensures) ∙ not-false _ (c .before .before .if1 .left) in
-    no-slots (a .n) (a .f) (a .me) (now (a .mark)) (now (a .slots)) s _ (c .refused2 .ensures) (c .before .if2 .taken)
+    no-slots (a .n) (a .f) (a .me) (now (a .mark)) (now (a .slots)) s _ (c .refused2 .ensures) (λ e. omega arith)
 
 signers-mask-requires : tie.Need-signers-mask-requires
 signers-mask-requires c κs =
     let a = c .before .before .before .before .args in
     let s = sym (c .before .before .are-sizes .ensures) ∙ not-false _ (c .before .if1 .left) in
-    (sizes-told (a .n) (a .f) (a .me) s .most, c .if2 .left)
+    (sizes-told (a .n) (a .f) (a .me) s .most, omega arith)
 
 cast-if3 : tie.Need-cast-if3
 cast-if3 c = omega (arith, ones-le 16 (c .signers-mask .result) (omega arith))
@@ -59,13 +59,13 @@ returns-3 : tie.Need-returns-3
 returns-3 c =
     let a = c .before .before .before .before .before .before .before .args in
     let s = sym (c .before .before .before .before .before .are-sizes .ensures) ∙ not-false _ (c .before .before .before .before .if1 .left) in
-    too-few (a .n) (a .f) (a .me) (now (a .mark)) (now (a .slots)) s (c .before .before .before .if2 .left) _ (c .before .before .signers-mask .ensures) _ (c .refused3 .ensures) (c .before .if3 .taken)
+    too-few (a .n) (a .f) (a .me) (now (a .mark)) (now (a .slots)) s (omega arith) _ (c .before .before .signers-mask .ensures) _ (c .refused3 .ensures) (omega arith)
 
 returns-4 : tie.Need-returns-4
 returns-4 c =
     let a = c .before .before .before .before .before .before .args in
     let s = sym (c .before .before .before .before .are-sizes .ensures) ∙ not-false _ (c .before .before .before .if1 .left) in
-    found (a .n) (a .f) (a .me) (now (a .mark)) (now (a .slots)) s (c .before .before .if2 .left) _ (c .before .signers-mask .ensures) (omega arith)
+    found (a .n) (a .f) (a .me) (now (a .mark)) (now (a .slots)) s (omega arith) _ (c .before .signers-mask .ensures) (omega arith)
 
 pub signers-spec : {M : Type 1} → statement M
 signers-spec =

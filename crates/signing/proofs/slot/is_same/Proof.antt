@@ -32,7 +32,7 @@ returns-2 : tie.Need-returns-2 Inv-loop μ-loop
 returns-2 c =
     let a = c .before .before .before .before .before .before .args in
     let l = c .before .before .before .before .loop in
-    sym (l .inv .1 ∙ here-unlike (now (a .mark)) (now (a .other)) (l .i) (omega arith) (omega arith) (c .if2 .taken))
+    sym (l .inv .1 ∙ here-unlike (now (a .mark)) (now (a .other)) (l .i) (omega arith) (omega arith) (λ e. omega arith))
 
 add-i : tie.Need-add-i Inv-loop μ-loop
 add-i c = search needs
@@ -44,7 +44,7 @@ loop-again : tie.Need-loop-again Inv-loop μ-loop
 loop-again c =
     let a = c .before .before .before .before .before .before .args in
     let l = c .before .before .before .before .loop in
-    (omega arith, l .inv .1 ∙ here-alike (now (a .mark)) (now (a .other)) (l .i) (omega arith) (omega arith) (c .if2 .left))
+    (omega arith, l .inv .1 ∙ here-alike (now (a .mark)) (now (a .other)) (l .i) (omega arith) (omega arith) (omega arith))
 
 returns-3 : tie.Need-returns-3 Inv-loop μ-loop
 returns-3 c =

