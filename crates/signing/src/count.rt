@@ -12,6 +12,7 @@ use crate::SigningCount;
 use crate::slot::speaks_with;
 use rules::are_sizes;
 
+// A refusal: the number, and nothing else of use.
 fn refused(number: u8) -> SigningCount
     ensures { λ r. ⌜ Refused number r ⌝ }
 {

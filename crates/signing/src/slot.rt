@@ -27,7 +27,7 @@ fn is_same(mark: &[u8], other: &[u8]) -> bool
 }
 
 // Whether the slot speaks with the mark.
-pub fn speaks_with(slot: &[u8], mark: &[u8; MARK_SIZE]) -> bool
+pub(crate) fn speaks_with(slot: &[u8], mark: &[u8; MARK_SIZE]) -> bool
     requires { ⌜ length (now slot) ≡ slotSize ⌝ }
     ensures { λ r. ⌜ r ≡ speaks (now (mark .entry)) (slotIn (now (slot .entry))) ⌝ }
 {

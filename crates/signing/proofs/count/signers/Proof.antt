@@ -19,7 +19,8 @@ refused-requires c κs = search needs
 returns : tie.Need-returns
 returns c =
     let a = c .before .before .before .before .args in
-    no-sizes (a .n) (a .f) (a .me) (now (a .mark)) (now (a .slots)) _ (c .refused .ensures) (sym (c .before .before .are-sizes .ensures) ∙ not-true _ (c .before .if1 .taken))
+    let s = sym (c .before .before .are-sizes .ensures) ∙ not-true _ (c .before .if1 .taken) in
+    no-sizes (a .n) (a .f) (a .me) (now (a .mark)) (now (a .slots)) _ (c .refused .ensures) s
 
 mul-if2 : tie.Need-mul-if2
 mul-if2 c =
