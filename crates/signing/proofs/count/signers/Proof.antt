@@ -66,7 +66,7 @@ returns-4 : tie.Need-returns-4
 returns-4 c =
     let a = c .before .before .before .before .before .before .args in
     let s = sym (c .before .before .before .before .are-sizes .ensures) ∙ not-false _ (c .before .before .before .if1 .left) in
-    found (a .n) (a .f) (a .me) (now (a .mark)) (now (a .slots)) s (omega arith) _ (c .before .signers-mask .ensures) (omega arith)
+    found (a .n) (a .f) (a .me) (now (a .mark)) (now (a .slots)) s (omega arith) _ (omega (arith, c .before .signers-mask .ensures)) (omega arith)
 
 pub signers-spec : {M : Type 1} → statement M
 signers-spec =
