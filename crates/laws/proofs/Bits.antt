@@ -8,13 +8,18 @@ use native.Mathlib.Omega.{arith}
 use lib.Arith.{bin-ind, lt-one}
 use lib.Count.{ones, ones-step}
 use lib.Dec.{eqb, lit<}
-use mir.Val.{boolByte}
 use lib.Pow.{pow-mono, shr-lt, shr-shr, pow-pos, shl-exact}
 use Rattle.laws.specs.Masks.{bit, asBit, count, maskOf}
+use mir.Val.{boolByte}
 
 -- a 1 shifted up within w bits
 pub one-shifted : (n w : ℕ) → n < w → (1 * 2 ^ n) % 2 ^ w ≡ 2 ^ n
 one-shifted n w h = shl-exact 1 n w (lit< tt) (omega arith) ∙ one-mul (2 ^ n)
+
+-- a test as a bit, shifted up within w bits
+pub shifted-bit : (t : Bool) (n w : ℕ) → n < w → (boolByte t * 2 ^ n) % 2 ^ w ≡ asBit t * 2 ^ n
+shifted-bit true n w h = shl-exact 1 n w (lit< tt) (omega arith)
+shifted-bit false n w h = shl-exact 1 n w (lit< tt) (omega arith)
 
 -- ---- a mask below 2 ^ n is one in which no bit n or above is set
 
@@ -79,14 +84,9 @@ mask-below t (suc n) = go (t n) (mask-below t n)
     go true h = omega arith
     go false h = omega arith
 
-pub mask-more : (t : ℕ → Bool) (n : ℕ) → maskOf t n + asBit (t n) * 2 ^ n ≡ maskOf t (n + 1)
-unfolding maskOf
-mask-more t n = add-comm (maskOf t n) (asBit (t n) * 2 ^ n) ∙ ap (maskOf t) (sym (add-one n))
-
 pub mask-within : (t : ℕ → Bool) (n w : ℕ) → n ≤ w → maskOf t n < 2 ^ w
 mask-within t n w h = lt-of-lt-of-le (mask-below t n) (pow-mono h)
 
--- a test as a bit, shifted up within w bits
-pub shifted-bit : (t : Bool) (j w : ℕ) → j < w → (boolByte t * 2 ^ j) % 2 ^ w ≡ asBit t * 2 ^ j
-shifted-bit true j w h = shl-exact 1 j w (lit< tt) (omega arith)
-shifted-bit false j w h = shl-exact 1 j w (lit< tt) (omega arith)
+pub mask-more : (t : ℕ → Bool) (n : ℕ) → maskOf t n + asBit (t n) * 2 ^ n ≡ maskOf t (n + 1)
+unfolding maskOf
+mask-more t n = add-comm (maskOf t n) (asBit (t n) * 2 ^ n) ∙ ap (maskOf t) (sym (add-one n))
