@@ -13,10 +13,16 @@ use lib.Count.{ones, ones-step}
 use lib.Dec.{eqb, ltb, lit<}
 use lib.Pow.{pow-mono, shr-lt, shr-shr, pow-pos, shl-exact, high}
 use Rattle.laws.specs.Masks.{bit, asBit, count, maskOf}
+use mir.Val.{boolByte}
 
 -- a 1 shifted up within w bits
 pub one-shifted : (n w : ℕ) → n < w → (1 * 2 ^ n) % 2 ^ w ≡ 2 ^ n
 one-shifted n w h = shl-exact 1 n w (lit< tt) (omega arith) ∙ one-mul (2 ^ n)
+
+-- a test as a bit, shifted up within w bits
+pub shifted-bit : (t : Bool) (n w : ℕ) → n < w → (boolByte t * 2 ^ n) % 2 ^ w ≡ asBit t * 2 ^ n
+shifted-bit true n w h = shl-exact 1 n w (lit< tt) (omega arith)
+shifted-bit false n w h = shl-exact 1 n w (lit< tt) (omega arith)
 
 -- ---- a mask below 2 ^ n is one in which no bit n or above is set
 
@@ -80,6 +86,9 @@ mask-below t (suc n) = go (t n) (mask-below t n)
     go : (b : Bool) → maskOf t n < 2 ^ n → asBit b * 2 ^ n + maskOf t n < 2 ^ suc n
     go true h = omega arith
     go false h = omega arith
+
+pub mask-within : (t : ℕ → Bool) (n w : ℕ) → n ≤ w → maskOf t n < 2 ^ w
+mask-within t n w h = lt-of-lt-of-le (mask-below t n) (pow-mono h)
 
 pub mask-more : (t : ℕ → Bool) (n : ℕ) → maskOf t n + asBit (t n) * 2 ^ n ≡ maskOf t (n + 1)
 unfolding maskOf

@@ -1,6 +1,7 @@
 pub mod Tests
 pub mod Order
 pub mod Ascent
+pub mod Equal
 pub mod Lent
 pub mod Bits
 pub mod Pairs

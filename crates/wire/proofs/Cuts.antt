@@ -12,8 +12,7 @@ use borrow.Author.Tests.{le-leb, lt-leb, leb-true, leb-false, lt-ltb, le-ltb, eq
 use lib.Dec.{leb}
 use lib.ListN.{length, getD, take, drop}
 use Rattle.laws.specs.Masks.{asBit, maskOf}
-use lib.Pow.{pow-mono}
-use Rattle.laws.proofs.Bits.{mask-below, mask-more, one-shifted}
+use Rattle.laws.proofs.Bits.{mask-more, mask-within, one-shifted}
 use Rattle.rules.specs.Sizes.{nodesMost, sized}
 use Rattle.rules.specs.Refusals.{refuse_unless_then_, done, ifDone}
 use Rattle.wire.specs.Sizes.{lengthSize}
@@ -94,9 +93,8 @@ module _ (n me : ℕ) (s : List ℕ) where
 
     pub mask-fits : j < nodesMost → mask + bit < 2 ^ nodesMost
     mask-fits h =
-        let up : j + 1 ≤ 16 = omega arith in
-        let top : 2 ^ (j + 1) ≤ 2 ^ 16 = pow-mono up in
-        omega (arith, mask-turn, mask-below unreadableFrom (j + 1))
+        let up : j + 1 ≤ nodesMost = omega arith in
+        omega (arith, mask-turn, mask-within unreadableFrom (j + 1) nodesMost up)
 
 pub bit-none : (t : Bool) (j : ℕ) → t ≡ false → 0 ≡ asBit t * 2 ^ j
 bit-none t j e = sym (ap (λ (x : Bool). asBit x * 2 ^ j) e ∙ zero-mul (2 ^ j))

@@ -1,0 +1,3 @@
+pub mod Bars
+pub mod Answers
+pub mod Determined
