@@ -4,6 +4,8 @@ pub mod Ascent
 pub mod Lent
 pub mod Bits
 pub mod Count
+pub mod Every
 pub mod Members
+pub mod Same
 pub mod Held
 pub mod Join
