@@ -1,6 +1,6 @@
 -- Soundness is kept: a fresh node is sound, and an opening leaves a sound state sound. An outbox with room for the longest record is never too short.
 use Prim.Native.Nat.{ℕ, zero, suc, _≤_}
-use mathlib.Core.Path.{_≡_, refl, sym, ap, subst, _∙_}
+use mathlib.Core.Path.{_≡_, refl, sym, ap, _∙_}
 use mathlib.Core.Logic.{_≢_}
 use mathlib.Core.Bool.{Bool, true, false, _&&_}
 use mathlib.Core.List.{List, []}
@@ -9,8 +9,8 @@ use borrow.Author.Tests.{le-leb, leb-true, eqb-true}
 use lib.Dec.{leb, eqb}
 use lib.ListN.{length}
 use Rattle.laws.proofs.Tests.{both}
-use Rattle.rules.specs.Sizes.{sizes, isBatch}
-use Rattle.rules.specs.Refusals.{refuse_unless_then_, done, ifDone}
+use Rattle.rules.specs.Sizes.{sizes}
+use Rattle.rules.specs.Refusals.{done, ifDone}
 use Rattle.rules.specs.Vote.{opened}
 use Rattle.rules.proofs.Refusals.{row-passed}
 use Rattle.wire.specs.Sizes.{recordMost}
@@ -19,7 +19,7 @@ use Rattle.wire.proofs.Writings.{record-length}
 use Rattle.tray.specs.Trays.{entriesOf, soundTray}
 use Rattle.tray.specs.declared.Tray.{Tray}
 use Rattle.tray.proofs.Sound.{batch-parts, sound-parts}
-use Rattle.node.specs.State.{mayKeep, soundNode, fresh, newNumber, New}
+use Rattle.node.specs.State.{mayKeep, soundNode, fresh, New}
 use Rattle.node.specs.Opening.{openingVote, openedNode, openNumber, Open}
 use Rattle.node.specs.declared.Node.{Node}
 use Rattle.node.specs.declared.Made.{Made}
