@@ -1,0 +1,3 @@
+pub mod Batches
+pub mod State
+pub mod Opening
