@@ -1,0 +1,3 @@
+pub mod Found
+pub mod Passing
+pub mod Step
