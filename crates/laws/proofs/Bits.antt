@@ -1,14 +1,17 @@
 -- Masks and their set bits, over the width.
 use Prim.Native.Nat.{ℕ, zero, suc, _+_, _*_, _/_, _%_, _^_, _≤_, _<_}
 use mathlib.Core.Path.{_≡_, refl, sym, ap, subst, _∙_}
-use mathlib.Core.Bool.{Bool, true, false}
-use native.Mathlib.Nat.{add-comm, div-eq-of-lt, lt-of-lt-of-le, div-one, zero-mod, one-mul, div-lt-iff-lt-mul, le-refl}
+use mathlib.Core.Logic.{⊎-elim}
+use mathlib.Core.Bool.{Bool, true, false, _&&_}
+use native.Mathlib.Nat.{add-comm, div-eq-of-lt, lt-of-lt-of-le, div-one, zero-mod, one-mul, div-lt-iff-lt-mul, le-refl, eq-or-lt-of-le}
 use native.Mathlib.Numerals.{add-one, one-add}
 use native.Mathlib.Omega.{arith}
+use borrow.Author.Tests.{ltb-true, ltb-false}
 use lib.Arith.{bin-ind, lt-one}
+use lib.Bits.{block-half, block-odd}
 use lib.Count.{ones, ones-step}
-use lib.Dec.{eqb, lit<}
-use lib.Pow.{pow-mono, shr-lt, shr-shr, pow-pos, shl-exact}
+use lib.Dec.{eqb, ltb, lit<}
+use lib.Pow.{pow-mono, shr-lt, shr-shr, pow-pos, shl-exact, high}
 use Rattle.laws.specs.Masks.{bit, asBit, count, maskOf}
 
 -- a 1 shifted up within w bits
@@ -81,3 +84,32 @@ mask-below t (suc n) = go (t n) (mask-below t n)
 pub mask-more : (t : ℕ → Bool) (n : ℕ) → maskOf t n + asBit (t n) * 2 ^ n ≡ maskOf t (n + 1)
 unfolding maskOf
 mask-more t n = add-comm (maskOf t n) (asBit (t n) * 2 ^ n) ∙ ap (maskOf t) (sym (add-one n))
+
+-- what stands at 2 ^ k and above changes no bit below k
+block-bit : (a k r j : ℕ) → j < k → bit (a * 2 ^ k + r) j ≡ bit r j
+block-bit a zero r j h = absurd (omega arith)
+block-bit a (suc k) r zero h = omega (arith, div-one (a * 2 ^ suc k + r), div-one r, block-odd a k r)
+block-bit a (suc k) r (suc j) h =
+    ap (λ (x : ℕ). x % 2) (half-bit (a * 2 ^ suc k + r) j ∙ ap (λ (x : ℕ). x / 2 ^ j) (block-half a k r))
+    ∙ block-bit a k (r / 2) j (omega arith)
+    ∙ ap (λ (x : ℕ). x % 2) (sym (half-bit r j))
+
+bit-one : (b : Bool) → asBit b % 2 ≡ asBit b
+bit-one true = refl
+bit-one false = refl
+
+bit-below : (t : ℕ → Bool) (n j : ℕ) → j < n → bit (maskOf t n) j ≡ asBit (t j)
+unfolding maskOf
+bit-below t zero j h = absurd (omega arith)
+bit-below t (suc n) j h =
+    let l : j ≤ n = omega arith in
+    ⊎-elim (λ e. rw e (ap (λ (x : ℕ). x % 2) (high (asBit (t n)) n (mask-below t n)) ∙ bit-one (t n)))
+    (λ k. block-bit (asBit (t n)) n (maskOf t n) j k ∙ bit-below t n j k) (eq-or-lt-of-le l)
+
+-- bit j is set exactly where j is below n and passes
+pub mask-bit : (t : ℕ → Bool) (n j : ℕ) → bit (maskOf t n) j ≡ asBit (ltb j n && t j)
+mask-bit t n j = go (ltb j n) refl
+  where
+    go : (b : Bool) → ltb j n ≡ b → bit (maskOf t n) j ≡ asBit (ltb j n && t j)
+    go true e = simp e (bit-below t n j (ltb-true j n e))
+    go false e = simp e (low-bits n (maskOf t n) (mask-below t n) j (ltb-false j n e))

@@ -1,3 +1,2 @@
-pub mod Found
 pub mod Passing
 pub mod Step

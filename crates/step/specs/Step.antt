@@ -12,17 +12,13 @@ use Rattle.rules.specs.Sizes.{nodesMost}
 use Rattle.rules.specs.Refusals.{refuse_unless_then_, done, ifDone}
 use Rattle.rules.specs.Vote.{Vote}
 use Rattle.rules.specs.Step.{gather, keptMost, takenUp, keptAfter, passesOn}
-use Rattle.wire.specs.Message.{votesOf, messageBytes}
-use Rattle.wire.specs.Inbox.{messageOf, wellCut, unreadableSenders}
+use Rattle.wire.specs.Message.{messageBytes}
+use Rattle.wire.specs.Inbox.{wellCut, unreadableSenders}
 use Rattle.node.specs.Batches.{keptAs}
 use Rattle.node.specs.State.{keptFor, soundNode}
 use Rattle.node.specs.declared.Node.{Node}
-use Rattle.step.specs.Found.{votesIn}
+use Rattle.round.specs.Found.{heardFrom}
 use Rattle.step.specs.declared.Stepped.{Stepped}
-
--- the votes that the message of sender j reads as
-abbrev pub heardFrom : (n : ℕ) (inbox : List ℕ) (j : ℕ) → List Vote
-heardFrom n inbox j = votesIn (votesOf n (messageOf inbox j))
 
 -- the votes that the step takes up
 abbrev pub takenBy : Node → List ℕ → List Vote

@@ -1,19 +1,10 @@
 // The round step: the inbox is read by sender, then by record; what is newly kept is passed on.
-mod finding;
-mod keeping;
 mod passing;
 mod stepping;
 
 pub use stepping::step;
 
-use node::{Batch, Kept, Node};
-
-// What a round has found for one primary: what is kept, and beside each batch newly kept the mask of the first accepted vote for it.
-pub struct Found {
-    pub kept: Kept,
-    pub first: u16,
-    pub second: u16,
-}
+use node::{Batch, Node};
 
 // A vote to be passed on.
 pub struct Passed {

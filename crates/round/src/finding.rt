@@ -9,8 +9,7 @@ ghost use Rattle.wire.specs.Inbox.{unreadableSenders, wellCut};
 ghost use Rattle.wire.specs.Message.{silent, votesOf};
 ghost use Rattle.node.specs.Batches.{keptOf};
 ghost use Rattle.node.specs.State.{keptAt};
-ghost use Rattle.step.specs.Found.{Take, foundBy, others, votesIn};
-ghost use Rattle.step.specs.Step.{heardFrom, keptAsAll};
+ghost use Rattle.round.specs.Found.{Take, foundBy, heardFrom, others, votesIn};
 
 use crate::Found;
 use crate::keeping::{batch_from, is_wanted, keep};
