@@ -1,15 +1,6 @@
 // The votes of an inbox, taken up one after the other.
 ghost use mathlib.Core.Path.{_≡_};
-ghost use mathlib.Core.Bool.{false, true};
-ghost use mathlib.Core.List.{[]};
-ghost use Prim.Native.Nat.{_<_};
-ghost use Rattle.rules.specs.Sizes.{sized};
-ghost use Rattle.rules.specs.Step.{takenUp};
-ghost use Rattle.wire.specs.Inbox.{unreadableSenders, wellCut};
-ghost use Rattle.wire.specs.Message.{silent, votesOf};
-ghost use Rattle.node.specs.Batches.{keptOf};
-ghost use Rattle.node.specs.State.{keptAt};
-ghost use Rattle.round.specs.Found.{Take, foundBy, heardFrom, others, votesIn};
+ghost use Rattle.round.specs.Found.{Begin, TakeInbox, TakeMessage, takesUp};
 
 use crate::Found;
 use crate::keeping::{batch_from, is_wanted, keep};
@@ -18,6 +9,7 @@ use wire::{Place, Record};
 
 // Before the first vote: what was kept, and no masks.
 pub fn begin(kept: [Kept; rules::NODES_MOST]) -> [Found; rules::NODES_MOST]
+    ensures { λ r. ⌜ Begin kept r ⌝ }
 {
     let nothing = Found {
         kept: kept[0],
@@ -25,7 +17,7 @@ pub fn begin(kept: [Kept; rules::NODES_MOST]) -> [Found; rules::NODES_MOST]
         second: 0,
     };
     let mut found = [nothing; rules::NODES_MOST];
-    let mut p = 1;
+    let mut p = 0;
     while p < rules::NODES_MOST {
         found[p] = Found {
             kept: kept[p],
@@ -39,8 +31,7 @@ pub fn begin(kept: [Kept; rules::NODES_MOST]) -> [Found; rules::NODES_MOST]
 
 // The votes of a readable message, but those of which the node is itself the primary.
 fn take_message(n: usize, me: usize, round: usize, found: [Found; rules::NODES_MOST], message: &[u8]) -> [Found; rules::NODES_MOST]
-    requires { ⌜ (sized n ≡ true) × (silent (votesOf n (now message)) ≡ false) ⌝ }
-    ensures { λ r. ⌜ Take round found r (others me (votesIn (votesOf n (now (message .entry))))) ⌝ }
+    ensures { λ r. ⌜ TakeMessage n me round found (now (message .entry)) r ⌝ }
 {
     let mut after = found;
     let mut at: usize = 0;
@@ -66,6 +57,20 @@ fn take_message(n: usize, me: usize, round: usize, found: [Found; rules::NODES_M
     after
 }
 
+// Whether a sender's message is taken up: it is another's, and readable.
+fn is_heard(me: usize, sender: usize, unreadable: u16) -> bool
+    ensures { λ r. ⌜ r ≡ takesUp me sender unreadable ⌝ }
+{
+    if sender == me {
+        return false;
+    }
+    // A mask has no bit 16 or above.
+    if rules::NODES_MOST <= sender {
+        return true;
+    }
+    (unreadable >> sender) % 2 == 0
+}
+
 // The votes of every other sender whose message is readable, by sender.
 pub fn take_inbox(
     n: usize,
@@ -75,8 +80,7 @@ pub fn take_inbox(
     inbox: &[u8],
     unreadable: u16,
 ) -> [Found; rules::NODES_MOST]
-    requires { ⌜ (sized n ≡ true) × (wellCut n (now inbox) ≡ true) × (unreadable ≡ unreadableSenders n me (now inbox)) ⌝ }
-    ensures { λ r. ⌜ Take round found r (takenUp n me (heardFrom n (now (inbox .entry)))) ⌝ }
+    ensures { λ r. ⌜ TakeInbox n me round found (now (inbox .entry)) unreadable r ⌝ }
 {
     let mut after = found;
     let mut at: usize = 0;
@@ -92,14 +96,4 @@ pub fn take_inbox(
         sender = sender + 1;
     }
     after
-}
-
-// Whether a sender's message is taken up: it is another's, and readable.
-fn is_heard(me: usize, sender: usize, unreadable: u16) -> bool
-    requires { ⌜ sender < 16 ⌝ }
-{
-    if sender == me {
-        return false;
-    }
-    (unreadable >> sender) % 2 == 0
 }
