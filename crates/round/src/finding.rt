@@ -90,7 +90,8 @@ pub fn take_inbox(
             return after;
         };
         if is_heard(me, sender, unreadable) {
-            after = take_message(n, me, round, after, &inbox[start..end]);
+            let taken = take_message(n, me, round, after, &inbox[start..end]);
+            after = taken;
         }
         at = end;
         sender = sender + 1;

@@ -10,10 +10,10 @@ use Rattle.wire.proofs.batch_bytes.Reads as batch-bytes-reads
 use Rattle.wire.proofs.read_record.Reads as read-record-reads
 
 abbrev Inv-loop : tie.InvT-loop
-Inv-loop n me round message after₀ at₀ after at = ?
+Inv-loop n me round message after₀ at₀ after at = (at ≤ length message) × Reached n me round message after₀ after at
 
 abbrev μ-loop : tie.MeasureT-loop
-μ-loop n me round message after₀ at₀ after at = ?
+μ-loop n me round message after₀ at₀ after at = length message - at
 
 -- src/finding.rt:38:5
 loop-holds : tie.Need-loop-holds Inv-loop μ-loop
