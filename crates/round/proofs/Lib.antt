@@ -1,2 +1,5 @@
 pub mod Tests
+pub mod Starts
 pub mod Keeps
+pub mod Takes
+pub mod Messages

@@ -37,22 +37,26 @@ fn take_message(n: usize, me: usize, round: usize, found: [Found; rules::NODES_M
     let mut at: usize = 0;
     while at < message.len() {
         let part = &message[at..];
-        let Record::Vote {
-            primary,
-            mask,
-            count: _,
-            next,
-        } = wire::read_record(n, part) else {
-            return after;
-        };
-        let its = after[primary];
-        let kept = its.kept;
-        let many = kept.count;
-        if is_wanted(me, round, primary, mask, many) {
-            let batch = batch_from(wire::batch_bytes(n, part));
-            after[primary] = keep(its, mask, batch);
+        match wire::read_record(n, part) {
+            Record::Vote {
+                primary,
+                mask,
+                count: _,
+                next,
+            } => {
+                if is_wanted(me, round, primary, mask, after[primary].kept.count) {
+                    let batch = batch_from(wire::batch_bytes(n, part));
+                    after[primary] = keep(after[primary], mask, batch);
+                }
+                at = at + next;
+            }
+            Record::Unreadable => {
+                return after;
+            }
+            Record::Refused => {
+                return after;
+            }
         }
-        at = at + next;
     }
     after
 }
