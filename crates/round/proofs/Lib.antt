@@ -3,3 +3,4 @@ pub mod Starts
 pub mod Keeps
 pub mod Takes
 pub mod Messages
+pub mod Inboxes

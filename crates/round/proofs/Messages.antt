@@ -25,6 +25,12 @@ use Rattle.round.specs.Found.{votesIn, others, Take, TakeMessage}
 use Rattle.round.specs.declared.Found.{Found}
 use Rattle.round.proofs.Takes.{take-none, take-join}
 
+-- the record that stands at place a ends within the message
+pub ends-within : (n : ℕ) (s : List ℕ) (a p m k x : ℕ) → Told n (drop a s) p m k x → (headSize ≤ x) × (x ≤ length s - a)
+ends-within n s a p m k x told =
+    let w = readable-whole n (drop a s) (told .reads) in
+    (omega (arith, told .next), omega (arith, told .next, w .all, length-drop a s))
+
 -- ---- the bytes of a batch
 
 module _ (n : ℕ) (s bytes : List ℕ) (p m k x : ℕ) (told : Told n s p m k x) (b : BatchBytes n s bytes) where
