@@ -28,6 +28,11 @@ bit-told true silence = refl
 bit-told false true = refl
 bit-told false false = refl
 
+no-votes : (me : ℕ) (own : Bool) (o : Option (List Vote)) → (not own && not (silent o)) ≡ false → cond own [] (others me (votesIn o)) ≡ []
+no-votes me true o h = refl
+no-votes me false none h = refl
+no-votes me false (some vs) h = absurd (clash refl h)
+
 module _ (n me : ℕ) (s : List ℕ) (j unreadable : ℕ) (low : j < n) (e : unreadable ≡ unreadableSenders n me s) where
   sender-told : takesUp me j unreadable ≡ (not (eqb j me) && not (silent (votesOf n (messageOf s j))))
   unfolding unreadableSenders
@@ -42,17 +47,9 @@ module _ (n me : ℕ) (s : List ℕ) (j unreadable : ℕ) (low : j < n) (e : unr
       let t = both (not (eqb j me)) (not (silent (votesOf n (messageOf s j)))) (sym sender-told ∙ h) in
       (not-true (eqb j me) (t .0), not-true (silent (votesOf n (messageOf s j))) (t .1))
 
-  nothing-in : (me own : ℕ) (o : Option (List Vote)) → (not (eqb own me) && not (silent o)) ≡ false → cond (eqb own me) [] (others me (votesIn o)) ≡ []
-  nothing-in me own o h = go (eqb own me) o h
-    where
-      go : (t : Bool) (o : Option (List Vote)) → (not t && not (silent o)) ≡ false → cond t [] (others me (votesIn o)) ≡ []
-      go true o h = refl
-      go false none h = refl
-      go false (some vs) h = absurd (clash refl h)
-
   -- one that is not has no votes
   passed-over : takesUp me j unreadable ≡ false → cond (eqb j me) [] (others me (heardFrom n s j)) ≡ []
-  passed-over h = nothing-in me j (votesOf n (messageOf s j)) (sym sender-told ∙ h)
+  passed-over h = no-votes me (eqb j me) (votesOf n (messageOf s j)) (sym sender-told ∙ h)
 
 -- ---- the loop over the senders
 

@@ -72,7 +72,7 @@ turn c =
 loop-holds : tie.Need-loop-holds Inv-loop μ-loop
 loop-holds c =
     let a = c .before .args in
-    (omega arith, at-start (a .n) (a .me) (a .round) (now (a .message)) _)
+    (omega arith, at-start (a .n) (a .me) (a .round) (now (a .message)) (a .found))
 
 sub-part : tie.Need-sub-part Inv-loop μ-loop
 sub-part c = search needs
@@ -133,7 +133,7 @@ loop-again c =
     let a = c .before .before .before .before .before .before .before .before .before .before .args in
     let l = c .before .before .before .before .before .before .before .before .loop in
     let t = within (c .before .before) in
-    (omega arith, next-vote (a .n) (a .me) (a .round) (now (a .message)) _ (l .after) (l .at) (l .inv .1) _ _ _ _ (c .if1 .after) (told (c .before .before)) (turn c))
+    (omega arith, next-vote (a .n) (a .me) (a .round) (now (a .message)) (a .found) (l .after) (l .at) (l .inv .1) _ _ _ _ (c .if1 .after) (told (c .before .before)) (turn c))
 
 enum-told : tie.Need-enum-told Inv-loop μ-loop
 enum-told c = search needs
@@ -143,7 +143,7 @@ returns c =
     let a = c .before .before .before .before .before .before .before .args in
     let l = c .before .before .before .before .before .loop in
     let r = subst (ReadRecord (a .n) _) (c .enum-told .given .1) (c .before .before .read-record .ensures) in
-    no-vote (a .n) (a .me) (a .round) (now (a .message)) _ (l .after) (l .at) (l .inv .1) (omega arith) (unreadable-told (a .n) (drop (l .at) (now (a .message))) (rw rest-of at r) .1)
+    no-vote (a .n) (a .me) (a .round) (now (a .message)) (a .found) (l .after) (l .at) (l .inv .1) (omega arith) (unreadable-told (a .n) (drop (l .at) (now (a .message))) (rw rest-of at r) .1)
 
 enum-told-2 : tie.Need-enum-told-2 Inv-loop μ-loop
 enum-told-2 c = search needs
@@ -153,13 +153,13 @@ returns-2 c =
     let a = c .before .before .before .before .before .before .before .args in
     let l = c .before .before .before .before .before .loop in
     let r = subst (ReadRecord (a .n) _) (c .enum-told2 .given .1) (c .before .before .read-record .ensures) in
-    no-nodes (a .n) (a .me) (a .round) (now (a .message)) _ (l .after) (refused-told (a .n) _ r)
+    no-nodes (a .n) (a .me) (a .round) (now (a .message)) (a .found) (l .after) (refused-told (a .n) _ r)
 
 returns-3 : tie.Need-returns-3 Inv-loop μ-loop
 returns-3 c =
     let a = c .before .before .before .args in
     let l = c .before .loop in
-    at-end (a .n) (a .me) (a .round) (now (a .message)) _ (l .after) (l .at) (l .inv .1) (c .loop-test .left)
+    at-end (a .n) (a .me) (a .round) (now (a .message)) (a .found) (l .after) (l .at) (l .inv .1) (c .loop-test .left)
 
 pub take-message-spec : {M : Type 1} → statement M
 take-message-spec =
