@@ -15,7 +15,7 @@ use Rattle.rules.proofs.Gathered.{each-length, each-at}
 use Rattle.node.specs.Batches.{keptAs}
 use Rattle.node.specs.State.{keptAt}
 use Rattle.node.specs.declared.Kept.{Kept}
-use Rattle.round.specs.Found.{masksBeside, foundFor, foundBy, Begin}
+use Rattle.round.specs.Found.{foundFor, foundBy, Begin}
 use Rattle.round.specs.declared.Found.{Found}
 
 -- what is kept, and no masks

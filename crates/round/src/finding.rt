@@ -1,11 +1,13 @@
 // The votes of an inbox, taken up one after the other.
 ghost use mathlib.Core.Path.{_≡_};
 ghost use Rattle.round.specs.Found.{Begin, TakeInbox, TakeMessage, takesUp};
-
 use crate::Found;
-use crate::keeping::{batch_from, is_wanted, keep};
+use crate::keeping::batch_from;
+use crate::keeping::is_wanted;
+use crate::keeping::keep;
 use node::Kept;
-use wire::{Place, Record};
+use wire::Place;
+use wire::Record;
 
 // Before the first vote: what was kept, and no masks.
 pub fn begin(kept: [Kept; rules::NODES_MOST]) -> [Found; rules::NODES_MOST]
@@ -30,7 +32,13 @@ pub fn begin(kept: [Kept; rules::NODES_MOST]) -> [Found; rules::NODES_MOST]
 }
 
 // The votes of a readable message, but those of which the node is itself the primary.
-fn take_message(n: usize, me: usize, round: usize, found: [Found; rules::NODES_MOST], message: &[u8]) -> [Found; rules::NODES_MOST]
+fn take_message(
+    n: usize,
+    me: usize,
+    round: usize,
+    found: [Found; rules::NODES_MOST],
+    message: &[u8],
+) -> [Found; rules::NODES_MOST]
     ensures { λ r. ⌜ TakeMessage n me round found (now (message .entry)) r ⌝ }
 {
     let mut after = found;

@@ -2,8 +2,8 @@
 mod finding;
 mod keeping;
 
-pub use finding::{begin, take_inbox};
-
+pub use finding::begin;
+pub use finding::take_inbox;
 use node::Kept;
 
 // What a round has found for one primary: what is kept, and beside each batch newly kept the mask of the first accepted vote for it, else 0.

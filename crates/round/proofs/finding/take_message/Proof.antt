@@ -1,6 +1,6 @@
 -- Before each record: what takes up the votes that are left takes up all. A record's vote changes what is found for its primary, if it is wanted.
 use Prim.Native.Nat.{_-_, _≤_, _<_}
-use mathlib.Core.Path.{_≡_, refl, sym, ap, subst, _∙_}
+use mathlib.Core.Path.{refl, sym, ap, subst, _∙_}
 use mathlib.Core.Logic.{⊎-elim}
 use mathlib.Core.List.{List, [], _∷_}
 use native.Mathlib.Omega.{arith}
@@ -10,7 +10,7 @@ use Rattle.laws.proofs.Lent.{rest-of}
 use Rattle.rules.specs.Vote.{Vote}
 use Rattle.rules.proofs.Sizes.{sized-most}
 use Rattle.wire.specs.Record.{batchOf}
-use Rattle.wire.specs.Reader.{ReadRecord, BatchBytes}
+use Rattle.wire.specs.Reader.{ReadRecord}
 use Rattle.wire.proofs.Readings.{Told, vote-told, unreadable-told, refused-told, readable-whole}
 use Rattle.node.specs.Batches.{batchOf as batchHeld}
 use Rattle.round.specs.Found.{others, Take}
@@ -93,7 +93,7 @@ mul-is-wanted : tie.Need-mul-is-wanted Inv-loop μ-loop
 mul-is-wanted c = let h = low c in omega arith
 
 element-copy-out-is-wanted : tie.Need-element-copy-out-is-wanted Inv-loop μ-loop
-element-copy-out-is-wanted c = low c
+element-copy-out-is-wanted c = let h = low c in omega arith
 
 is-wanted-requires : tie.Need-is-wanted-requires Inv-loop μ-loop
 is-wanted-requires c κs = search needs
@@ -111,7 +111,7 @@ mul-keep : tie.Need-mul-keep Inv-loop μ-loop
 mul-keep c = let h = low (c .before .before .before .before) in omega arith
 
 array-copy-out-keep : tie.Need-array-copy-out-keep Inv-loop μ-loop
-array-copy-out-keep c = low (c .before .before .before .before)
+array-copy-out-keep c = let h = low (c .before .before .before .before) in omega arith
 
 keep-requires : tie.Need-keep-requires Inv-loop μ-loop
 keep-requires c κs = search needs
@@ -120,7 +120,7 @@ mul-after : tie.Need-mul-after Inv-loop μ-loop
 mul-after c = let h = low (c .before .before .before .before .before .before) in omega arith
 
 array-set-from-after : tie.Need-array-set-from-after Inv-loop μ-loop
-array-set-from-after c = low (c .before .before .before .before .before .before)
+array-set-from-after c = let h = low (c .before .before .before .before .before .before) in omega arith
 
 add-at : tie.Need-add-at Inv-loop μ-loop
 add-at c = let t = within (c .before .before) in omega arith
