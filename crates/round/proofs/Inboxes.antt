@@ -68,21 +68,21 @@ module _ (n me r : ℕ) (s : List ℕ) (unreadable : ℕ) (found : List Found) w
 
   module _ (after : List Found) (j at : ℕ) (place : at ≡ placeOf s j) (here : Passed n me r s unreadable found after j) where
     module _ (low : j < n) where
-      pub is-passed : takesUp me j unreadable ≡ false → Passed n me r s unreadable found after (j + 1)
-      is-passed h = record {
+      pub is-passed : (next : List Found) (t : Bool) → t ≡ takesUp me j unreadable → t ≡ false → next ≡ after → Passed n me r s unreadable found next (j + 1)
+      is-passed next t told not-so same = record {
         taken = λ nodes e.
             let votes = takenUp j me (heardFrom n s) in
-            subst (λ (l : List Vote). Take r found after l)
-            (sym (one-sender me (heardFrom n s) j ∙ ap (λ (l : List Vote). votes ++ l) (passed-over n me s j unreadable low e h) ∙ append-nil votes))
-            (here .taken nodes e);
+            let none-more = passed-over n me s j unreadable low e (sym told ∙ not-so) in
+            let all : takenUp (j + 1) me (heardFrom n s) ≡ votes = one-sender me (heardFrom n s) j ∙ ap (λ (l : List Vote). votes ++ l) none-more ∙ append-nil votes in
+            rw (all, same) (here .taken nodes e);
       }
 
-      pub is-taken : (start end : ℕ) (next : List Found) → Told s at start end → takesUp me j unreadable ≡ true
+      pub is-taken : (next : List Found) (t : Bool) → t ≡ takesUp me j unreadable → t ≡ true → (start end : ℕ) → Told s at start end
           → TakeMessage n me r after (take (end - start) (drop start s)) next → Passed n me r s unreadable found next (j + 1)
-      is-taken start end next told h t = record {
+      is-taken next t told so start end place-told more-taken = record {
         taken = λ nodes e.
-            let q = heard n me s j unreadable low e h in
-            let m = subst (λ (u : List ℕ). TakeMessage n me r after u next) (own-place s j at start end told place) t in
+            let q = heard n me s j unreadable low e (sym told ∙ so) in
+            let m = subst (λ (u : List ℕ). TakeMessage n me r after u next) (own-place s j at start end place-told place) more-taken in
             let more : others me (heardFrom n s j) ≡ cond (eqb j me) [] (others me (heardFrom n s j)) = simp (q .0) in
             subst (λ (l : List Vote). Take r found next l) (sym (one-sender me (heardFrom n s) j))
             (take-join r found after next (takenUp j me (heardFrom n s)) (cond (eqb j me) [] (others me (heardFrom n s j))) (here .taken nodes e)

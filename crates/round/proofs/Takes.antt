@@ -83,9 +83,16 @@ module _ (me r : ℕ) (found : List Found) (d : Found) (v : Vote) (low : v .prim
       → getD found (v .primary) d .kept .count ≡ length (keptAfter keptMost r (v .primary) (kept (v .primary)) votes)
   many kept votes e = ap (λ (f : Found). f .kept .count) (its kept votes e)
 
-  pub vote-left : wanted me r (v .primary) (v .mask) (getD found (v .primary) d .kept .count) ≡ false → Take r found found (others me (v ∷ []))
-  vote-left h = go (eqb (v .primary) me) refl
+  -- whether it is wanted
+  abbrev test : Bool
+  test = wanted me r (v .primary) (v .mask) (getD found (v .primary) d .kept .count)
+
+  pub vote-left : (after : List Found) (t : Bool) → t ≡ test → t ≡ false → after ≡ found → Take r found after (others me (v ∷ []))
+  vote-left after t told not-so same = subst (λ (f : List Found). Take r found f (others me (v ∷ []))) (sym same) (go (eqb (v .primary) me) refl)
     where
+      h : test ≡ false
+      h = sym told ∙ not-so
+
       nowhere : eqb (v .primary) me ≡ false → (kept : ℕ → List Batch) (votes : List Vote) → found ≡ foundBy r kept votes → (q : ℕ) (t : Bool) → eqb (v .primary) q ≡ t
           → keeps keptMost r q (keptAfter keptMost r q (kept q) votes) v ≡ false
       nowhere e kept votes b q true t =
@@ -99,17 +106,19 @@ module _ (me r : ℕ) (found : List Found) (d : Found) (v : Vote) (low : v .prim
         takes = λ kept votes b. b ∙ all-unmoved r kept votes v (λ q. nowhere e kept votes b q (eqb (v .primary) q) refl);
       }
 
-  pub vote-kept : (mask : ℕ) (b : BatchHeld) (x : Found) → mask ≡ v .mask → b ≡ batchOf (v .batch)
-      → wanted me r (v .primary) (v .mask) (getD found (v .primary) d .kept .count) ≡ true → Keep (getD found (v .primary) d) mask b x
-      → Take r found (set found (v .primary) x) (others me (v ∷ []))
-  vote-kept mask b x m h w k = go (eqb (v .primary) me) refl
+  pub vote-kept : (after : List Found) (t : Bool) → t ≡ test → t ≡ true → (b : BatchHeld) (x : Found) → b ≡ batchOf (v .batch)
+      → Keep (getD found (v .primary) d) (v .mask) b x → after ≡ set found (v .primary) x → Take r found after (others me (v ∷ []))
+  vote-kept after t told so b x h k set-is = subst (λ (f : List Found). Take r found f (others me (v ∷ []))) (sym set-is) (go (eqb (v .primary) me) refl)
     where
+      w : test ≡ true
+      w = sym told ∙ so
+
       kept-as : (kept : ℕ → List Batch) (votes : List Vote) → found ≡ foundBy r kept votes → x ≡ foundAt r kept (votes ++ (v ∷ [])) (v .primary)
       kept-as kept votes e =
           let p : ℕ = v .primary in
           let new : List Vote = newly keptMost r p (kept p) votes in
           let q = is-wanted me r (keptAfter keptMost r p (kept p) votes) v (subst (λ (j : ℕ). wanted me r p (v .mask) j ≡ true) (many kept votes e) w) in
-          k .keeps (kept p) new v (its kept votes e) m h
+          k .keeps (kept p) new v (its kept votes e) refl h
           ∙ ap (foundFor (kept p)) (ap (λ (t : Bool). new ++ cond t (v ∷ []) []) (q .1) ∙ sym (newly-snoc keptMost r p (kept p) votes v))
 
       go : (t : Bool) → eqb (v .primary) me ≡ t → Take r found (set found (v .primary) x) (others me (v ∷ []))

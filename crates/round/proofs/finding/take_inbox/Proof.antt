@@ -34,15 +34,16 @@ turn : (c : tie.Joined1 Inv-loop μ-loop)
 turn c =
     let a = c .before .before .before .before .before .before .before .before .before .args in
     let l = c .before .before .before .before .before .before .before .loop in
-    let P : List Found → Type 0 = λ f. Passed (a .n) (a .me) (a .round) (now (a .inbox)) (a .unreadable) (a .found) f (l .sender + 1) in
-    let heard = sym (c .before .is-heard .ensures) in
+    let hears = c .before .is-heard .ensures in
+    let passed = Passed (a .n) (a .me) (a .round) (now (a .inbox)) (a .unreadable) (a .found) in
     ⊎-elim
     (λ w.
-    subst P (sym (w .3))
-    (is-taken (a .n) (a .me) (a .round) (now (a .inbox)) (a .unreadable) (a .found) (l .after) (l .sender) (l .at) (l .inv .2) (l .inv .3) (omega arith) _ _ (w .2 .result) (told (c .before .before)) (heard ∙ w .0 .taken) (w .2 .ensures)))
+    subst (λ (f : List Found). passed f (l .sender + 1)) (sym (w .3))
+    (is-taken (a .n) (a .me) (a .round) (now (a .inbox)) (a .unreadable) (a .found) (l .after) (l .sender) (l .at) (l .inv .2) (l .inv .3) (omega arith)
+    (w .2 .result) _ hears (w .0 .taken) _ _ (told (c .before .before)) (w .2 .ensures)))
     (λ w.
-    subst P (sym (w .1))
-    (is-passed (a .n) (a .me) (a .round) (now (a .inbox)) (a .unreadable) (a .found) (l .after) (l .sender) (l .at) (l .inv .2) (l .inv .3) (omega arith) (heard ∙ w .0 .left)))
+    is-passed (a .n) (a .me) (a .round) (now (a .inbox)) (a .unreadable) (a .found) (l .after) (l .sender) (l .at) (l .inv .2) (l .inv .3) (omega arith)
+    (c .if1 .after) _ hears (w .0 .left) (w .1))
     (c .if1 .came)
 
 loop-holds : tie.Need-loop-holds Inv-loop μ-loop

@@ -1,8 +1,8 @@
 -- Before each record: what takes up the votes that are left takes up all. A record's vote changes what is found for its primary, if it is wanted.
 use Prim.Native.Nat.{_-_, _≤_, _<_}
-use mathlib.Core.Path.{refl, sym, ap, subst, _∙_}
+use mathlib.Core.Path.{ap, subst, _∙_}
 use mathlib.Core.Logic.{⊎-elim}
-use mathlib.Core.List.{List, [], _∷_}
+use mathlib.Core.List.{[], _∷_}
 use native.Mathlib.Omega.{arith}
 use denote.Ref.{now}
 use lib.ListN.{length, drop}
@@ -14,7 +14,6 @@ use Rattle.wire.specs.Reader.{ReadRecord}
 use Rattle.wire.proofs.Readings.{Told, vote-told, unreadable-told, refused-told, readable-whole}
 use Rattle.node.specs.Batches.{batchOf as batchHeld}
 use Rattle.round.specs.Found.{others, Take}
-use Rattle.round.specs.declared.Found.{Found}
 use Rattle.round.proofs.Takes.{vote-left, vote-kept}
 use Rattle.round.proofs.Messages.{ends-within, few-bytes, its-batch, Reached, at-start, next-vote, no-vote, at-end, no-nodes}
 use borrow.Author.Needs.{needs}
@@ -59,14 +58,12 @@ turn c =
     let s = drop (l .at) (now (a .message)) in
     let v : Vote = record { primary = p .0; mask = p .1 .0; batch = batchOf s } in
     let h = low (c .before .before) in
+    let wants = c .before .is-wanted .ensures in
     ⊎-elim
     (λ w.
     let b = w .2 .ensures ∙ ap batchHeld (its-batch (a .n) s _ _ _ _ _ (told (c .before .before)) (rw rest-of at (w .1 .ensures))) in
-    subst (λ (f : List Found). Take (a .round) (l .after) f (others (a .me) (v ∷ []))) (sym (w .5))
-    (vote-kept (a .me) (a .round) (l .after) _ v h (p .1 .0) (w .2 .result) (w .4 .result) refl b (sym (c .before .is-wanted .ensures) ∙ w .0 .taken) (w .4 .ensures)))
-    (λ w.
-    subst (λ (f : List Found). Take (a .round) (l .after) f (others (a .me) (v ∷ []))) (sym (w .1))
-    (vote-left (a .me) (a .round) (l .after) _ v h (sym (c .before .is-wanted .ensures) ∙ w .0 .left)))
+    vote-kept (a .me) (a .round) (l .after) _ v h (c .if1 .after) _ wants (w .0 .taken) (w .2 .result) (w .4 .result) b (w .4 .ensures) (w .5))
+    (λ w. vote-left (a .me) (a .round) (l .after) _ v h (c .if1 .after) _ wants (w .0 .left) (w .1))
     (c .if1 .came)
 
 loop-holds : tie.Need-loop-holds Inv-loop μ-loop
