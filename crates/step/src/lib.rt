@@ -2,9 +2,9 @@
 mod passing;
 mod stepping;
 
+use node::Batch;
+use node::Node;
 pub use stepping::step;
-
-use node::{Batch, Node};
 
 // A vote to be passed on.
 pub struct Passed {
