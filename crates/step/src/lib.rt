@@ -1,10 +1,8 @@
 // The round step: the inbox is read by sender, then by record; what is newly kept is passed on.
-mod passing;
-mod stepping;
+mod outbox;
 
 use node::Batch;
 use node::Node;
-pub use stepping::step;
 
 // A vote to be passed on.
 pub struct Passed {
