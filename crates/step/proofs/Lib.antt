@@ -1,1 +1,2 @@
 pub mod Collecting
+pub mod Outboxes
