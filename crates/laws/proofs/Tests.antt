@@ -20,6 +20,15 @@ pub neither : (s t : Bool) → (s || t) ≡ false → (s ≡ false) × (t ≡ fa
 neither true t h = absurd (clash refl h)
 neither false t h = (refl, h)
 
+-- one of two tests holds: where the first does not, the second does
+pub other : (s t : Bool) → (s || t) ≡ true → s ≡ false → t ≡ true
+other true t h e = absurd (clash refl e)
+other false t h e = h
+
+pub one-of : (s t : Bool) → (s ≡ false → t ≡ true) → (s || t) ≡ true
+one-of true t h = refl
+one-of false t h = h refl
+
 -- two tests whose negations are the same
 pub not-same : (s t : Bool) → not s ≡ not t → s ≡ t
 not-same true true h = refl
