@@ -77,20 +77,22 @@ too-short n s j h l =
 
 -- ---- one sender's turn: its message stands at its place, and its bit joins the mask of those before it
 
+pub own-place : (s : List ℕ) (j at start end : ℕ) → Told s at start end → at ≡ placeOf s j → take (end - start) (drop start s) ≡ messageOf s j
+unfolding messageOf
+own-place s j at start end told e =
+    let l : end - start ≡ lengthAt s at = omega (arith, told .start-is, told .end-is) in
+    ap₂ (λ (k i : ℕ). take k (drop i s)) l (told .start-is) ∙ ap (λ (i : ℕ). take (lengthAt s i) (drop (i + lengthSize) s)) e
+
 module _ (n me : ℕ) (s : List ℕ) where
   abbrev pub unreadableFrom : ℕ → Bool
   unreadableFrom j = isUnreadable n me j (messageOf s j)
 
   module _ (j at start end mask bit : ℕ) (told : Told s at start end) (e : at ≡ placeOf s j) (m : mask ≡ maskOf unreadableFrom j)
       (b : bit ≡ asBit (isUnreadable n me j (take (end - start) (drop start s))) * 2 ^ j) where
-    own-place : take (end - start) (drop start s) ≡ messageOf s j
-    unfolding messageOf
-    own-place =
-        let l : end - start ≡ lengthAt s at = omega (arith, told .start-is, told .end-is) in
-        ap₂ (λ (k i : ℕ). take k (drop i s)) l (told .start-is) ∙ ap (λ (i : ℕ). take (lengthAt s i) (drop (i + lengthSize) s)) e
-
     pub mask-turn : mask + bit ≡ maskOf unreadableFrom (j + 1)
-    mask-turn = ap₂ (λ (x y : ℕ). x + y) m (b ∙ ap (λ (u : List ℕ). asBit (isUnreadable n me j u) * 2 ^ j) own-place) ∙ mask-more unreadableFrom j
+    mask-turn =
+        ap₂ (λ (x y : ℕ). x + y) m (b ∙ ap (λ (u : List ℕ). asBit (isUnreadable n me j u) * 2 ^ j) (own-place s j at start end told e))
+        ∙ mask-more unreadableFrom j
 
     pub mask-fits : j < nodesMost → mask + bit < 2 ^ nodesMost
     mask-fits h =

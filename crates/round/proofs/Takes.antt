@@ -1,0 +1,122 @@
+-- What some votes more make of what is found. No votes change nothing, and votes join up. One vote can change what is found for its own primary alone: it is
+-- accepted for no other; and where it is not wanted it changes nothing at all.
+use Prim.Native.Nat.{ℕ, _<_}
+use mathlib.Core.Path.{_≡_, refl, sym, ap, subst, _∙_}
+use mathlib.Core.Logic.{_≢_}
+use mathlib.Core.Bool.{Bool, true, false, not, cond, _&&_}
+use mathlib.Core.List.{List, [], _∷_, _++_, append-nil, append-assoc}
+use borrow.Author.Tests.{eq-eqb, ne-eqb, eqb-true, eqb-false, not-true}
+use lib.Count.{ones}
+use lib.Dec.{eqb, ltb, leb}
+use lib.ListN.{length, getD, set}
+use Rattle.laws.specs.Masks.{bit}
+use Rattle.laws.specs.Members.{among}
+use Rattle.laws.proofs.Tests.{clash, both}
+use Rattle.rules.specs.Sizes.{nodesMost}
+use Rattle.rules.specs.Vote.{Batch, Vote, shows, accepted}
+use Rattle.rules.specs.Step.{gather, keptMost, keeps, newly, keptAfter}
+use Rattle.rules.proofs.Newly.{newly-snoc}
+use Rattle.rules.proofs.Gathered.{each-at, each-set}
+use Rattle.node.specs.Batches.{batchOf}
+use Rattle.node.specs.declared.Batch.{Batch as BatchHeld}
+use Rattle.round.specs.Found.{foundFor, foundBy, others, wanted, Keep, Take}
+use Rattle.round.specs.declared.Found.{Found}
+
+module _ (r : ℕ) where
+  pub take-none : (a : List Found) → Take r a a []
+  take-none a = record { takes = λ kept votes e. e ∙ ap (foundBy r kept) (sym (append-nil votes)) }
+
+  pub take-join : (a b c : List Found) (xs ys : List Vote) → Take r a b xs → Take r b c ys → Take r a c (xs ++ ys)
+  take-join a b c xs ys t u = record {
+    takes = λ kept votes e. u .takes kept (votes ++ xs) (t .takes kept votes e) ∙ ap (foundBy r kept) (append-assoc votes xs ys);
+  }
+
+-- ---- whether one vote's batch is kept
+
+other-primary : (cap r q : ℕ) (kept : List Batch) (v : Vote) → v .primary ≢ q → keeps cap r q kept v ≡ false
+unfolding keeps accepted
+other-primary cap r q kept v h = simp (ne-eqb (v .primary) q h)
+
+neither-way : (a n t : Bool) → (t && a) ≡ false → (a && (n && t)) ≡ false
+neither-way false n t h = refl
+neither-way true n true h = absurd (clash refl h)
+neither-way true true false h = refl
+neither-way true false false h = refl
+
+module _ (me r : ℕ) (kept : List Batch) (v : Vote) where
+  unwanted : eqb (v .primary) me ≡ false → wanted me r (v .primary) (v .mask) (length kept) ≡ false → keeps keptMost r (v .primary) kept v ≡ false
+  unfolding keeps accepted shows
+  unwanted e h =
+      simp (eq-eqb (v .primary) (v .primary) refl)
+      (neither-way (eqb (bit (v .mask) (v .primary)) 1 && leb r (ones (v .mask))) (not (among (v .batch) kept)) (ltb (length kept) keptMost) (simp e at h))
+
+  is-wanted : wanted me r (v .primary) (v .mask) (length kept) ≡ true
+      → (eqb (v .primary) me ≡ false) × ((not (among (v .batch) kept) && ltb (length kept) keptMost) ≡ keeps keptMost r (v .primary) kept v)
+  unfolding keeps accepted shows
+  is-wanted h =
+      let a = both _ _ h in
+      let b = both (ltb (length kept) keptMost) (eqb (bit (v .mask) (v .primary)) 1 && leb r (ones (v .mask))) (a .1) in
+      let d = both (eqb (bit (v .mask) (v .primary)) 1) (leb r (ones (v .mask))) (b .1) in
+      (not-true (eqb (v .primary) me) (a .0), simp (eq-eqb (v .primary) (v .primary) refl, d .0, d .1))
+
+-- ---- one vote more
+
+-- what is found for primary q by some votes
+abbrev foundAt : (r : ℕ) (kept : ℕ → List Batch) (votes : List Vote) (q : ℕ) → Found
+foundAt r kept votes q = foundFor (kept q) (newly keptMost r q (kept q) votes)
+
+module _ (r : ℕ) (kept : ℕ → List Batch) (votes : List Vote) (v : Vote) where
+  unmoved : (q : ℕ) → keeps keptMost r q (keptAfter keptMost r q (kept q) votes) v ≡ false → foundAt r kept votes q ≡ foundAt r kept (votes ++ (v ∷ [])) q
+  unmoved q e =
+      let new : List Vote = newly keptMost r q (kept q) votes in
+      ap (foundFor (kept q)) (sym (newly-snoc keptMost r q (kept q) votes v ∙ ap (λ (t : Bool). new ++ cond t (v ∷ []) []) e ∙ append-nil new))
+
+  all-unmoved : ((q : ℕ) → keeps keptMost r q (keptAfter keptMost r q (kept q) votes) v ≡ false) → foundBy r kept votes ≡ foundBy r kept (votes ++ (v ∷ []))
+  all-unmoved h = λ i. gather (λ (q : ℕ). unmoved q (h q) i ∷ []) nodesMost
+
+module _ (me r : ℕ) (found : List Found) (d : Found) (v : Vote) (low : v .primary < nodesMost) where
+  -- what is found for the vote's primary
+  its : (kept : ℕ → List Batch) (votes : List Vote) → found ≡ foundBy r kept votes → getD found (v .primary) d ≡ foundAt r kept votes (v .primary)
+  its kept votes e = ap (λ (f : List Found). getD f (v .primary) d) e ∙ each-at (foundAt r kept votes) d nodesMost (v .primary) low
+
+  many : (kept : ℕ → List Batch) (votes : List Vote) → found ≡ foundBy r kept votes
+      → getD found (v .primary) d .kept .count ≡ length (keptAfter keptMost r (v .primary) (kept (v .primary)) votes)
+  many kept votes e = ap (λ (f : Found). f .kept .count) (its kept votes e)
+
+  pub vote-left : wanted me r (v .primary) (v .mask) (getD found (v .primary) d .kept .count) ≡ false → Take r found found (others me (v ∷ []))
+  vote-left h = go (eqb (v .primary) me) refl
+    where
+      nowhere : eqb (v .primary) me ≡ false → (kept : ℕ → List Batch) (votes : List Vote) → found ≡ foundBy r kept votes → (q : ℕ) (t : Bool) → eqb (v .primary) q ≡ t
+          → keeps keptMost r q (keptAfter keptMost r q (kept q) votes) v ≡ false
+      nowhere e kept votes b q true t =
+          subst (λ (p : ℕ). keeps keptMost r p (keptAfter keptMost r p (kept p) votes) v ≡ false) (eqb-true (v .primary) q t)
+          (unwanted me r (keptAfter keptMost r (v .primary) (kept (v .primary)) votes) v e (subst (λ (k : ℕ). wanted me r (v .primary) (v .mask) k ≡ false) (many kept votes b) h))
+      nowhere e kept votes b q false t = other-primary keptMost r q (keptAfter keptMost r q (kept q) votes) v (eqb-false (v .primary) q t)
+
+      go : (t : Bool) → eqb (v .primary) me ≡ t → Take r found found (others me (v ∷ []))
+      go true e = rw e (take-none r found)
+      go false e = rw e record {
+        takes = λ kept votes b. b ∙ all-unmoved r kept votes v (λ q. nowhere e kept votes b q (eqb (v .primary) q) refl);
+      }
+
+  pub vote-kept : (mask : ℕ) (b : BatchHeld) (x : Found) → mask ≡ v .mask → b ≡ batchOf (v .batch)
+      → wanted me r (v .primary) (v .mask) (getD found (v .primary) d .kept .count) ≡ true → Keep (getD found (v .primary) d) mask b x
+      → Take r found (set found (v .primary) x) (others me (v ∷ []))
+  vote-kept mask b x m h w k = go (eqb (v .primary) me) refl
+    where
+      kept-as : (kept : ℕ → List Batch) (votes : List Vote) → found ≡ foundBy r kept votes → x ≡ foundAt r kept (votes ++ (v ∷ [])) (v .primary)
+      kept-as kept votes e =
+          let p : ℕ = v .primary in
+          let new : List Vote = newly keptMost r p (kept p) votes in
+          let q = is-wanted me r (keptAfter keptMost r p (kept p) votes) v (subst (λ (j : ℕ). wanted me r p (v .mask) j ≡ true) (many kept votes e) w) in
+          k .keeps (kept p) new v (its kept votes e) m h
+          ∙ ap (foundFor (kept p)) (ap (λ (t : Bool). new ++ cond t (v ∷ []) []) (q .1) ∙ sym (newly-snoc keptMost r p (kept p) votes v))
+
+      go : (t : Bool) → eqb (v .primary) me ≡ t → Take r found (set found (v .primary) x) (others me (v ∷ []))
+      go true e = absurd (clash e (not-true (eqb (v .primary) me) (both _ _ w .0)))
+      go false e = rw e record {
+        takes = λ kept votes b.
+            ap (λ (f : List Found). set f (v .primary) x) b
+            ∙ each-set (foundAt r kept votes) (foundAt r kept (votes ++ (v ∷ []))) d x nodesMost (v .primary) low (kept-as kept votes b)
+            (λ q n. unmoved r kept votes v q (other-primary keptMost r q (keptAfter keptMost r q (kept q) votes) v (λ i. n (sym i))));
+      }

@@ -1,0 +1,112 @@
+// The votes of an inbox, taken up one after the other.
+ghost use mathlib.Core.Path.{_≡_};
+ghost use Rattle.round.specs.Found.{Begin, TakeInbox, TakeMessage, takesUp};
+use crate::Found;
+use crate::keeping::batch_from;
+use crate::keeping::is_wanted;
+use crate::keeping::keep;
+use node::Kept;
+use wire::Place;
+use wire::Record;
+
+// Before the first vote: what was kept, and no masks.
+pub fn begin(kept: [Kept; rules::NODES_MOST]) -> [Found; rules::NODES_MOST]
+    ensures { λ r. ⌜ Begin kept r ⌝ }
+{
+    let nothing = Found {
+        kept: kept[0],
+        first: 0,
+        second: 0,
+    };
+    let mut found = [nothing; rules::NODES_MOST];
+    let mut p = 0;
+    while p < rules::NODES_MOST {
+        found[p] = Found {
+            kept: kept[p],
+            first: 0,
+            second: 0,
+        };
+        p += 1;
+    }
+    found
+}
+
+// The votes of a readable message, but those of which the node is itself the primary.
+fn take_message(
+    n: usize,
+    me: usize,
+    round: usize,
+    found: [Found; rules::NODES_MOST],
+    message: &[u8],
+) -> [Found; rules::NODES_MOST]
+    ensures { λ r. ⌜ TakeMessage n me round found (now (message .entry)) r ⌝ }
+{
+    let mut after = found;
+    let mut at: usize = 0;
+    while at < message.len() {
+        let part = &message[at..];
+        match wire::read_record(n, part) {
+            Record::Vote {
+                primary,
+                mask,
+                count: _,
+                next,
+            } => {
+                if is_wanted(me, round, primary, mask, after[primary].kept.count) {
+                    let batch = batch_from(wire::batch_bytes(n, part));
+                    after[primary] = keep(after[primary], mask, batch);
+                }
+                at = at + next;
+            }
+            Record::Unreadable => {
+                return after;
+            }
+            Record::Refused => {
+                return after;
+            }
+        }
+    }
+    after
+}
+
+// Whether a sender's message is taken up: it is another's, and readable.
+fn is_heard(me: usize, sender: usize, unreadable: u16) -> bool
+    ensures { λ r. ⌜ r ≡ takesUp me sender unreadable ⌝ }
+{
+    if sender == me {
+        return false;
+    }
+    // A mask has no bit 16 or above.
+    if rules::NODES_MOST <= sender {
+        return true;
+    }
+    (unreadable >> sender) % 2 == 0
+}
+
+// The votes of every other sender whose message is readable, by sender.
+pub fn take_inbox(
+    n: usize,
+    me: usize,
+    round: usize,
+    found: [Found; rules::NODES_MOST],
+    inbox: &[u8],
+    unreadable: u16,
+) -> [Found; rules::NODES_MOST]
+    ensures { λ r. ⌜ TakeInbox n me round found (now (inbox .entry)) unreadable r ⌝ }
+{
+    let mut after = found;
+    let mut at: usize = 0;
+    let mut sender: usize = 0;
+    while sender < n {
+        let Place::Message { start, end } = wire::message_at(inbox, at) else {
+            return after;
+        };
+        if is_heard(me, sender, unreadable) {
+            let taken = take_message(n, me, round, after, &inbox[start..end]);
+            after = taken;
+        }
+        at = end;
+        sender = sender + 1;
+    }
+    after
+}
