@@ -1,3 +1,4 @@
 pub mod Collecting
 pub mod Outboxes
 pub mod PassedVotes
+pub mod Steps

@@ -55,6 +55,10 @@ stepNumber s inbox room =
     refuse 9 unless leb (length (messageBytes (passedBy s inbox))) room then
     done
 
+-- a refusal leaves the node as it is
+abbrev pub refusedStep : ℕ → Node → Stepped
+refusedStep k s = record { number = k; length = 0; unreadable = 0; node = s }
+
 pub record Step (s : Node) (inbox outbox : List ℕ) (answer : Stepped) (after : List ℕ) : Type 0 where
   pub number : answer .number ≡ stepNumber s inbox (length outbox)
   pub size : answer .length ≡ ifDone (stepNumber s inbox (length outbox)) (length (messageBytes (passedBy s inbox))) 0

@@ -1,8 +1,10 @@
 // The round step: the inbox is read by sender, then by record; what is newly kept is passed on.
 mod outbox;
+mod stepping;
 
 use node::Batch;
 use node::Node;
+pub use stepping::step;
 
 // A vote to be passed on.
 pub struct Passed {
