@@ -1,54 +1,56 @@
+-- Before turn p the first p places hold what is kept of the first p that were found.
+use Prim.Native.Nat.{_-_, _≤_}
+use mathlib.Core.Path.{_≡_, refl, _∙_}
+use native.Mathlib.Omega.{arith}
+use lib.ListN.{length, take, length-set}
+use Rattle.rules.specs.Sizes.{nodesMost}
+use Rattle.step.specs.Passing.{keptIn}
+use Rattle.step.proofs.Steps.{one-kept, all-kept}
 use borrow.Author.Needs.{needs}
 use Rattle.step.proofs.stepping.kept_in.Statement.{statement}
 use Rattle.step.proofs.stepping.kept_in.Tie as tie
-use Rattle.step.proofs.stepping.kept_in.Reads as reads
-use Rattle.step.proofs.stepping.kept_in.Lts as lts
 
 abbrev Inv-loop : tie.InvT-loop
-Inv-loop found kept₀ p₀ kept p = ?
+Inv-loop found kept₀ p₀ kept p = (p ≤ nodesMost) × (length kept ≡ nodesMost) × (take p kept ≡ keptIn (take p found))
 
 abbrev μ-loop : tie.MeasureT-loop
-μ-loop found kept₀ p₀ kept p = ?
+μ-loop found kept₀ p₀ kept p = nodesMost - p
 
--- src/stepping.rt:53:17
 array-copy-out-first : tie.Need-array-copy-out-first Inv-loop μ-loop
 array-copy-out-first c = search needs
 
--- src/stepping.rt:57:5
 loop-holds : tie.Need-loop-holds Inv-loop μ-loop
-loop-holds c = search needs
+loop-holds c = (omega arith, refl, refl)
 
--- src/stepping.rt:58:19
 mul-its : tie.Need-mul-its Inv-loop μ-loop
 mul-its c = search needs
 
--- src/stepping.rt:58:19
 array-copy-out-its : tie.Need-array-copy-out-its Inv-loop μ-loop
 array-copy-out-its c = search needs
 
--- src/stepping.rt:60:9
 mul-kept : tie.Need-mul-kept Inv-loop μ-loop
 mul-kept c = search needs
 
--- src/stepping.rt:60:9
 array-set-from-kept : tie.Need-array-set-from-kept Inv-loop μ-loop
 array-set-from-kept c = search needs
 
--- src/stepping.rt:61:9
 add-p : tie.Need-add-p Inv-loop μ-loop
 add-p c = search needs
 
--- src/stepping.rt:57:5
 loop-less : tie.Need-loop-less Inv-loop μ-loop
 loop-less c = search needs
 
--- src/stepping.rt:57:5
 loop-again : tie.Need-loop-again Inv-loop μ-loop
-loop-again c = search needs
+loop-again c =
+    let a = c .before .before .before .before .before .before .args in
+    let l = c .before .before .before .loop in
+    (omega arith, length-set (l .kept) (l .p) _ ∙ l .inv .1, one-kept (a .t1) (l .kept) (l .p) _ (omega arith) (omega (arith, l .inv .1)) (l .inv .2))
 
--- src/stepping.rt:50:1
 returns : tie.Need-returns Inv-loop μ-loop
-returns c = search needs
+returns c =
+    let a = c .before .before .before .before .args in
+    let l = c .before .loop in
+    all-kept (a .t1) (l .kept) (l .p) (omega arith) (omega (arith, l .inv .1)) (l .inv .2)
 
 pub kept-in-spec : {M : Type 1} → statement M
 kept-in-spec =
