@@ -2,3 +2,4 @@ pub mod Collecting
 pub mod Outboxes
 pub mod PassedVotes
 pub mod Steps
+pub mod Determined

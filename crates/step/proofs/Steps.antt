@@ -7,17 +7,19 @@ use mathlib.Core.Bool.{Bool, true, false, and-false}
 use mathlib.Core.List.{List, [], _∷_, _++_, map, map-append}
 use native.Mathlib.Numerals.{add-one}
 use native.Mathlib.Omega.{arith}
-use borrow.Author.Tests.{lt-leb, le-leb, lt-ltb, eq-eqb, ne-eqb}
+use borrow.Author.Tests.{lt-leb, le-leb, leb-true, lt-ltb, eq-eqb, ne-eqb}
 use lib.Dec.{leb}
 use lib.ListN.{length, getD, take, set}
 use lib.Seq.{take-suc, take-suc-set, take-all}
 use Rattle.laws.specs.Members.{In}
 use Rattle.laws.specs.Parts.{onto}
-use Rattle.laws.proofs.Tests.{clash}
+use Rattle.laws.proofs.Lent.{onto-length}
+use Rattle.laws.proofs.Tests.{both}
 use Rattle.rules.specs.Sizes.{nodesMost, sized, sizes}
-use Rattle.rules.specs.Refusals.{refuse_unless_then_, done}
+use Rattle.rules.specs.Refusals.{refuse_unless_then_, done, ifDone}
 use Rattle.rules.specs.Vote.{Vote, batches}
 use Rattle.rules.specs.Step.{gather, keptMost, newly, passesOn}
+use Rattle.rules.proofs.Refusals.{row-passed}
 use Rattle.rules.proofs.Sizes.{Sized, sizes-told}
 use Rattle.wire.specs.Message.{messageBytes}
 use Rattle.wire.specs.Inbox.{wellCut, unreadableSenders, inboxNumber, ReadInbox}
@@ -76,6 +78,18 @@ gathered-kept g (suc n) =
 
 -- ---- the answers
 
+pub in-rounds : (s : Node) → 1 ≤ s .phase → s .phase ≤ s .f + 1 → inRounds s ≡ true
+in-rounds s l h = simp (le-leb _ _ l, le-leb _ _ h)
+
+pub before-rounds : (s : Node) → s .phase < 1 → inRounds s ≡ false
+before-rounds s l = simp (lt-leb _ _ l)
+
+pub after-rounds : (s : Node) → s .f + 1 < s .phase → inRounds s ≡ false
+after-rounds s l = simp (lt-leb _ _ l, and-false)
+
+pub rounds-told : (s : Node) → inRounds s ≡ true → s .phase ≤ s .f + 1
+rounds-told s h = leb-true (s .phase) (s .f + 1) (both (leb 1 (s .phase)) (leb (s .phase) (s .f + 1)) h .1)
+
 module _ (s : Node) (inbox out : List ℕ) where
   pub unsound : soundNode s ≡ false → Step s inbox out (refusedStep 2 s) out
   unfolding stepNumber
@@ -105,6 +119,30 @@ module _ (s : Node) (inbox out : List ℕ) where
         is-stepped answer after l a b u v x =
             let t = le-leb (length (messageBytes (passedBy s inbox))) (length out) l in
             record { number = simp (h, r, w, t) a; size = simp (h, r, w, t) b; unreadable = simp (h, r, w, t) u; node = simp (h, r, w, t) v; outbox-is = simp (h, r, w, t) x }
+
+  -- what a step that is done has found
+  pub record CanStep (room : ℕ) : Type 0 where
+    pub sound : soundNode s ≡ true
+    pub rounds : inRounds s ≡ true
+    pub cut : wellCut (s .n) inbox ≡ true
+    pub fits : length (messageBytes (passedBy s inbox)) ≤ room
+
+  pub step-found : (room : ℕ) → stepNumber s inbox room ≡ done → CanStep room
+  unfolding stepNumber
+  step-found room d =
+      let a = row-passed 1 (soundNode s) _ d in
+      let b = row-passed 2 (inRounds s) _ (a .1) in
+      let c = row-passed 3 (wellCut (s .n) inbox) _ (b .1) in
+      let e = row-passed 8 (leb (length (messageBytes (passedBy s inbox))) room) done (c .1) in
+      record { sound = a .0; rounds = b .0; cut = c .0; fits = leb-true _ _ (e .0) }
+
+  -- the outbox keeps its length
+  pub step-length : (answer : Stepped) (after : List ℕ) → Step s inbox out answer after → length after ≡ length out
+  step-length answer after p = ap length (p .outbox-is) ∙ go (stepNumber s inbox (length out)) refl
+    where
+      go : (k : ℕ) → stepNumber s inbox (length out) ≡ k → length (ifDone k (onto (messageBytes (passedBy s inbox)) out) out) ≡ length out
+      go zero e = onto-length (messageBytes (passedBy s inbox)) out (step-found (length out) e .fits)
+      go (suc k) e = refl
 
 -- ---- what a sound node finds
 
