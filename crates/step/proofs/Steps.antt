@@ -1,10 +1,10 @@
 -- The step: each refusal is one test, in the order of the rows; what has passed them finds the votes taken up, so what is kept, passed on and written is
 -- what they say.
 use Prim.Native.Nat.{ℕ, zero, suc, _+_, _≤_, _<_}
-use mathlib.Core.Path.{_≡_, refl, sym, ap, ap₂, subst, _∙_}
+use mathlib.Core.Path.{_≡_, refl, sym, ap, subst, _∙_}
 use mathlib.Core.Logic.{_≢_}
 use mathlib.Core.Bool.{Bool, true, false, and-false}
-use mathlib.Core.List.{List, [], _∷_, _++_, map, map-append}
+use mathlib.Core.List.{List, [], _∷_, _++_, map-append}
 use native.Mathlib.Numerals.{add-one}
 use native.Mathlib.Omega.{arith}
 use borrow.Author.Tests.{lt-leb, le-leb, leb-true, lt-ltb, eq-eqb, ne-eqb}
@@ -15,9 +15,8 @@ use Rattle.laws.specs.Members.{In}
 use Rattle.laws.specs.Parts.{onto}
 use Rattle.laws.proofs.Lent.{onto-length}
 use Rattle.laws.proofs.Tests.{both}
-use Rattle.rules.specs.Sizes.{nodesMost, sized, sizes}
+use Rattle.rules.specs.Sizes.{nodesMost}
 use Rattle.rules.specs.Refusals.{refuse_unless_then_, done, ifDone}
-use Rattle.rules.specs.Vote.{Vote, batches}
 use Rattle.rules.specs.Step.{gather, keptMost, newly, passesOn}
 use Rattle.rules.proofs.Refusals.{row-passed}
 use Rattle.rules.proofs.Sizes.{Sized, sizes-told}
@@ -31,8 +30,8 @@ use Rattle.node.specs.declared.Node.{Node}
 use Rattle.node.proofs.Sound.{sound-told, sound-is-of}
 use Rattle.round.specs.Found.{foundFor, foundBy, Begin, TakeInbox}
 use Rattle.round.specs.declared.Found.{Found}
-use Rattle.step.specs.Passing.{passedMost, said, AllCount, Placed, AllShort, AllSayable, Collect, PassOn, keptIn, WriteAll}
-use Rattle.step.specs.Step.{takenBy, keptBy, passedBy, steppedNode, inRounds, stepNumber, refusedStep, Step}
+use Rattle.step.specs.Passing.{passedMost, said, AllCount, AllShort, AllSayable, Collect, PassOn, keptIn}
+use Rattle.step.specs.Step.{takenBy, passedBy, steppedNode, inRounds, stepNumber, refusedStep, Step}
 use Rattle.step.specs.declared.Passing.{Passing}
 use Rattle.step.specs.declared.Stepped.{Stepped}
 use Rattle.step.proofs.PassedVotes.{kept-few, all-short, passed-by-sayable}

@@ -1,6 +1,5 @@
 -- Each refusal is one test, in the order of the rows; what has passed them all is a step to be taken.
 use mathlib.Core.Path.{sym, subst, _∙_}
-use mathlib.Core.Bool.{Bool}
 use native.Mathlib.Omega.{arith}
 use borrow.Author.Needs.{needs}
 use borrow.Author.Tests.{not-true, not-false}

@@ -1,5 +1,5 @@
 -- A sound node in a round finds the votes of its well-cut inbox; what is passed on is counted, and written where there is room.
-use mathlib.Core.Path.{_≡_, refl, sym, ap, subst, _∙_}
+use mathlib.Core.Path.{refl, sym, ap, subst, _∙_}
 use native.Mathlib.Omega.{arith}
 use borrow.Author.Needs.{needs}
 use Prim.Native.Nat.{ℕ}
@@ -54,9 +54,10 @@ returns c =
 write-all-requires : tie.Need-write-all-requires
 write-all-requires c κs =
     let s = c .before .before .before .before .before .before .before .before .before .before in
-    let t = said-so (c .before .before .before) in
-    ((numbers (s .args .node) (now (s .args .inbox)) (s .pre .0) .nodes, c .before .before .before .passed-on .ensures .placed, t .counts, t .sayable),
-    omega (arith, c .before .if1 .left, c .before .before .size-of .ensures))
+    let t = said-so (c .before .before .before) in (
+      (numbers (s .args .node) (now (s .args .inbox)) (s .pre .0) .nodes, c .before .before .before .passed-on .ensures .placed, t .counts, t .sayable),
+      omega (arith, c .before .if1 .left, c .before .before .size-of .ensures),
+    )
 
 kept-in-requires : tie.Need-kept-in-requires
 kept-in-requires c κs = search needs
