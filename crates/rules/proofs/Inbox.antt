@@ -1,16 +1,20 @@
 -- What a step takes up and what it passes on, by members: what is gathered is what some number below n gives.
-use Prim.Native.Nat.{ℕ, zero, suc, _+_, _<_}
-use mathlib.Core.Path.{_≡_, refl, subst}
-use mathlib.Core.Logic.{_≢_, ⊎-elim}
+use Prim.Native.Nat.{ℕ, zero, suc, _+_, _*_, _-_, _≤_, _<_}
+use mathlib.Core.Path.{_≡_, refl, sym, ap, subst, _∙_}
+use mathlib.Core.Logic.{_≢_, inl, ⊎-elim}
 use mathlib.Core.Bool.{Bool, true, false, cond, not}
-use mathlib.Core.List.{List, [], map}
+use mathlib.Core.List.{List, [], _∷_, map}
 use native.Mathlib.Nat.{le-refl, le-trans, le-suc, not-suc-le-zero, le-of-suc-le-suc, eq-or-lt-of-le}
+use native.Mathlib.Omega.{arith}
 use borrow.Author.Tests.{eqb-false, ne-eqb, not-true}
 use lib.Dec.{eqb}
+use lib.ListN.{length, length-append, length-map}
 use Rattle.laws.specs.Members.{In, those}
 use Rattle.laws.proofs.Members.{in-left, in-right, in-either, in-those, those-in, in-map, map-in}
 use Rattle.rules.specs.Vote.{Batch, Vote, passedOn}
 use Rattle.rules.specs.Step.{keptMost, gather, takenUp, newly, passesOn}
+use Rattle.rules.proofs.Votes.{accepted-says}
+use Rattle.rules.proofs.Newly.{newly-new, newly-few}
 
 module _ {A : Type 0} (g : ℕ → List A) where
   pub gather-in : (n j : ℕ) (x : A) → j < n → In x (g j) → In x (gather g n)
@@ -30,6 +34,30 @@ pub gather-same : {A : Type 0} (g h : ℕ → List A) (n : ℕ) → ((j : ℕ) �
 unfolding gather
 gather-same g h zero e = refl
 gather-same g h (suc n) e = rw (gather-same g h n (λ j l. e j (le-trans l (le-suc n))), e n (le-refl (suc n)))
+
+-- where each number gives k at most, and one of them nothing
+module _ {A : Type 0} (g : ℕ → List A) (k : ℕ) (few : (j : ℕ) → length (g j) ≤ k) where
+  pub gather-few : (n : ℕ) → length (gather g n) ≤ k * n
+  unfolding gather
+  gather-few zero = omega arith
+  gather-few (suc n) = omega (arith, gather-few n, few n, length-append (gather g n) (g n))
+
+  pub gather-but-one : (n i : ℕ) → i < n → length (g i) ≡ 0 → length (gather g n) ≤ k * (n - 1)
+  unfolding gather
+  gather-but-one zero i l e = absurd (not-suc-le-zero l)
+  gather-but-one (suc n) i l e =
+      let p : n ≡ suc n - 1 = omega arith in
+      subst (λ (j : ℕ). length (gather g (suc n)) ≤ k * j) p
+      (⊎-elim
+      (λ q. omega (arith, gather-few n, length-append (gather g n) (g n), ap (λ (j : ℕ). length (g j)) (sym q) ∙ e))
+      (λ m. more n m (gather-but-one n i m e))
+      (eq-or-lt-of-le (le-of-suc-le-suc l)))
+    where
+      more : (n : ℕ) → i < n → length (gather g n) ≤ k * (n - 1) → length (gather g (suc n)) ≤ k * n
+      more zero m h = absurd (not-suc-le-zero m)
+      more (suc n) m h =
+          let e : suc n - 1 ≡ n = omega arith in
+          omega (arith, ap (λ (j : ℕ). k * j) e, few (suc n), length-append (gather g (suc n)) (g (suc n)))
 
 -- ---- taken up: another's message, another's batch
 
@@ -96,3 +124,27 @@ module _ (n f me r : ℕ) (kept : ℕ → List Batch) (votes : List Vote) where
           let t = gather-of passedFor n w (rw e at h) in
           let m = map-in (passedOn me) w (newly keptMost r (t .0) (kept (t .0)) votes) (t .2) in
           record { primary = t .0; node = t .1; vote = m .0; new = m .1; passed = m .2 }
+
+  -- nothing is passed on for the node itself, since nothing of its own is taken up
+  module _ (others : (v : Vote) → In v votes → v .primary ≢ me) where
+    none-own : (ws : List Vote) → ((v : Vote) → In v ws → In v (newly keptMost r me (kept me) votes)) → length ws ≡ 0
+    none-own [] i = refl
+    none-own (v ∷ vs) i =
+        let q = newly-new keptMost r me (kept me) votes v (i v (inl refl)) in
+        absurd (others v (q .read) (accepted-says r me v (q .taken) .of))
+
+    -- at most two for each other primary
+    pub passes-few : me < n → ((p : ℕ) → length (kept p) ≤ keptMost) → length (passesOn n f me r kept votes) ≤ keptMost * (n - 1)
+    unfolding passesOn
+    passes-few l within = go (eqb r (f + 1)) refl
+      where
+        few : (p : ℕ) → length (passedFor p) ≤ keptMost
+        few p =
+            omega (arith, length-map (newly keptMost r p (kept p) votes) (passedOn me), newly-few keptMost r p (kept p) votes (within p))
+
+        own : length (passedFor me) ≡ 0
+        own = length-map (newly keptMost r me (kept me) votes) (passedOn me) ∙ none-own (newly keptMost r me (kept me) votes) (λ v i. i)
+
+        go : (b : Bool) → eqb r (f + 1) ≡ b → length (passesOn n f me r kept votes) ≤ keptMost * (n - 1)
+        go true e = rw e (omega arith)
+        go false e = rw e (gather-but-one passedFor keptMost few n me l own)

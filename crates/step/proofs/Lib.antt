@@ -1,0 +1,5 @@
+pub mod Collecting
+pub mod Outboxes
+pub mod PassedVotes
+pub mod Steps
+pub mod Determined
