@@ -3,3 +3,4 @@ pub mod Outboxes
 pub mod PassedVotes
 pub mod Steps
 pub mod Determined
+pub mod StaySound
