@@ -4,3 +4,4 @@ pub mod PassedVotes
 pub mod Steps
 pub mod Determined
 pub mod StaySound
+pub mod Courses
