@@ -5,3 +5,4 @@ pub mod Steps
 pub mod Determined
 pub mod StaySound
 pub mod Courses
+pub mod ReadsBack
