@@ -75,6 +75,12 @@ entry-again (a ∷ b ∷ c ∷ d ∷ e ∷ f ∷ g ∷ []) t l = absurd (omega a
 pub drop-bytes : (s : List ℕ) (k : ℕ) → AreBytes s → AreBytes (drop k s)
 drop-bytes s k t i = subst (λ (x : ℕ). x < 2 ^ 8) (sym (getD-drop k s i 0)) (t (k + i))
 
+pub take-bytes : (s : List ℕ) (k : ℕ) → AreBytes s → AreBytes (take k s)
+take-bytes s zero t i = lit< tt
+take-bytes [] (suc k) t i = lit< tt
+take-bytes (b ∷ s) (suc k) t zero = t 0
+take-bytes (b ∷ s) (suc k) t (suc i) = take-bytes s k (λ j. t (suc j)) i
+
 pub entries-again : (k : ℕ) (s : List ℕ) → AreBytes s → entrySize * k ≤ length s → entriesBytes (entriesOf k s) ≡ take (entrySize * k) s
 unfolding entriesOf entriesBytes
 entries-again zero s t l = refl

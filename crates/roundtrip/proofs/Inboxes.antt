@@ -23,7 +23,7 @@ use Rattle.wire.specs.Sizes.{lengthSize}
 use Rattle.wire.specs.Message.{votesOf, silent}
 use Rattle.wire.specs.Inbox.{lengthAt, endAt, placeOf, messageOf, wellCut, inboxBytes, isUnreadable, unreadableSenders}
 use Rattle.roundtrip.specs.Inboxes.{messages, Fit, Inboxes}
-use Rattle.roundtrip.proofs.Entries.{drop-bytes}
+use Rattle.roundtrip.proofs.Entries.{drop-bytes, take-bytes}
 
 -- no message is too long for its two length bytes
 abbrev Short : List (List ℕ) → Type 0
@@ -97,6 +97,13 @@ inbox-append [] ns = refl
 inbox-append (m ∷ ms) ns =
     ap (λ (t : List ℕ). length m % 256 ∷ length m / 256 % 256 ∷ t)
     (ap (λ (t : List ℕ). m ++ t) (inbox-append ms ns) ∙ sym (append-assoc m (inboxBytes ms) (inboxBytes ns)))
+
+-- the messages of an inbox are bytes
+pub message-bytes : (s : List ℕ) (j : ℕ) → AreBytes s → AreBytes (messageOf s j)
+unfolding messageOf
+message-bytes s j t =
+    let at : ℕ = placeOf s j in
+    take-bytes (drop (at + lengthSize) s) (lengthAt s at) (drop-bytes s (at + lengthSize) t)
 
 -- two bytes and as many as they state
 one-again : (u : List ℕ) → AreBytes u → lengthSize + lengthAt u 0 ≤ length u
