@@ -6,7 +6,7 @@ use mathlib.Core.List.{List, [], _∷_}
 use mathlib.Core.Logic.{_⊎_, inl, inr, ⊎-elim}
 use native.Mathlib.Nat.{eq-or-lt-of-le}
 use native.Mathlib.Omega.{arith}
-use borrow.Author.Tests.{ltb-true, ltb-false}
+use borrow.Author.Tests.{ltb-true, ltb-false, lt-ltb}
 use lib.Dec.{ltb}
 use lib.ListN.{length, getD}
 use Rattle.laws.specs.Order.{ascends, ascendsFrom}
@@ -26,6 +26,14 @@ three-ways a b = ⊎-elim (λ l. inl l) (λ g. inr (⊎-elim (λ l. inr l) (λ h
 pub rest-ascends : (x : ℕ) (xs : List ℕ) → ascendsFrom x xs ≡ true → ascends xs ≡ true
 rest-ascends x [] a = refl
 rest-ascends x (y ∷ ys) a = both (ltb x y) (ascendsFrom y ys) a .1
+
+-- what ascends from one ascends from a lesser one
+pub from-lesser : (x y : ℕ) (xs : List ℕ) → x < y → ascendsFrom y xs ≡ true → ascendsFrom x xs ≡ true
+from-lesser x y [] l a = refl
+from-lesser x y (z ∷ xs) l a =
+    let p = both (ltb y z) (ascendsFrom z xs) a in
+    let m : y < z = ltb-true y z (p .0) in
+    rw (lt-ltb x z (omega arith)) (p .1)
 
 -- each of an ascending list is above what it ascends from
 from-below : (x : ℕ) (xs : List ℕ) → ascendsFrom x xs ≡ true → (k : ℕ) → k < length xs → x < getD xs k 0
