@@ -24,7 +24,7 @@ use Rattle.closing.specs.declared.decisions.Gathered.{Gathered}
 
 -- ---- what is gathered
 
-module _ (s : Node) (sound : soundNode s ≡ true) (g : Gathered) (h : Gathers s (s .n) g) where
+module _ (s : Node) (sound : soundNode s ≡ true) (g : Gathered) (h : Gathers (s .me) (s .own) (s .kept) (s .n) g) where
   pub gathered-most : g .count ≤ decidedMost
   gathered-most = omega (arith, h .most, sizes-told (s .n) (s .f) (s .me) (sound-told s sound .numbers) .most)
 
