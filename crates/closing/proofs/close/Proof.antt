@@ -7,8 +7,8 @@ use denote.Ref.{now}
 use borrow.Author.Tests.{not-true, not-false}
 use lib.ListN.{length}
 use Rattle.laws.specs.Parts.{onto}
-use Rattle.rules.proofs.Sizes.{Sized, sizes-told}
-use Rattle.node.proofs.Sound.{Sound, sound-told}
+use Rattle.rules.proofs.Sizes.{sizes-told}
+use Rattle.node.proofs.Sound.{sound-told}
 use Rattle.closing.proofs.Answers.{gathered-most, gathered-length, mergeable, joins-new-log, unsound-state, too-soon, no-log, exceeds, too-short, closes}
 use borrow.Author.Needs.{needs}
 use Rattle.closing.proofs.close.Statement.{statement}
