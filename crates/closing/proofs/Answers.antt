@@ -39,7 +39,7 @@ module _ (s : Node) (sound : soundNode s ≡ true) (g : Gathered) (h : Gathers (
       new-most = omega (arith, gathered-length, gathered-most);
     }
 
-    pub joins-new-log : join old (gatheredOf g) ≡ newLog s old
+    joins-new-log : join old (gatheredOf g) ≡ newLog s old
     joins-new-log = ap (join old) (h .gathers) ∙ joined-first old (log-ascends old log) (decisionsOf s)
 
 -- ---- the rows
@@ -63,21 +63,25 @@ module _ (s : Node) (old output : List ℕ) where
       unfolding closeNumber
       no-log h r e = refused-by 6 r e (simp (sound, le-leb _ _ over, h))
 
-      module _ (log : isLog old ≡ true) where
-        pub exceeds : logMost < length (newLog s old) → (r : Closed) → r ≡ refusedClose 8 → Close s old output r output
+      -- what is gathered is joined with a log
+      module _ (log : isLog old ≡ true) (g : Gathered) (h : Gathers (s .me) (s .own) (s .kept) (s .n) g) (size : ℕ) (l : size ≡ length (join old (gatheredOf g))) where
+        new : join old (gatheredOf g) ≡ newLog s old
+        new = joins-new-log s sound g h old log
+
+        counted : length (newLog s old) ≡ size
+        counted = sym (l ∙ ap length new)
+
+        pub exceeds : logMost < size → (r : Closed) → r ≡ refusedClose 8 → Close s old output r output
         unfolding closeNumber fits
-        exceeds h r e = refused-by 7 r e (simp (sound, le-leb _ _ over, log, lt-leb _ _ h))
+        exceeds m r e = refused-by 7 r e (simp (sound, le-leb _ _ over, log, counted, lt-leb _ _ m))
 
-        module _ (most : length (newLog s old) ≤ logMost) where
-          pub too-short : length output < length (newLog s old) → (r : Closed) → r ≡ refusedClose 9 → Close s old output r output
+        module _ (most : size ≤ logMost) where
+          pub too-short : length output < size → (r : Closed) → r ≡ refusedClose 9 → Close s old output r output
           unfolding closeNumber fits
-          too-short h r e = refused-by 8 r e (simp (sound, le-leb _ _ over, log, le-leb _ _ most, lt-leb _ _ h))
+          too-short m r e = refused-by 8 r e (simp (sound, le-leb _ _ over, log, counted, le-leb _ _ most, lt-leb _ _ m))
 
-          pub closes : length (newLog s old) ≤ length output → (size : ℕ) → size ≡ length (newLog s old)
-              → (after : List ℕ) → after ≡ onto (newLog s old) output → Close s old output (record { number = 0; length = size }) after
+          pub closes : size ≤ length output → (after : List ℕ) → after ≡ onto (join old (gatheredOf g)) output → Close s old output (record { number = 0; length = size }) after
           unfolding closeNumber fits
-          closes h size l after e =
-              let room = le-leb _ _ h in
-              let fit = le-leb _ _ most in
-              let last = le-leb _ _ over in
-              record { number = simp (sound, last, log, fit, room); size = simp (sound, last, log, fit, room) l; output-is = simp (sound, last, log, fit, room) e }
+          closes room after e =
+              let n : closeNumber s old (length output) ≡ 0 = simp (sound, le-leb _ _ over, log, counted, le-leb _ _ most, le-leb _ _ room) in
+              record { number = sym n; size = simp n (sym counted); output-is = e ∙ ap (λ (w : List ℕ). onto w output) new ∙ simp n }

@@ -1,15 +1,11 @@
 -- Each refusal is one row; what has passed them all is the old log joined with what is gathered, which is the new log.
-use mathlib.Core.Path.{sym, ap, _∙_}
-use mathlib.Core.List.{List}
-use Prim.Native.Nat.{ℕ}
+use mathlib.Core.Path.{sym, _∙_}
 use native.Mathlib.Omega.{arith}
 use denote.Ref.{now}
 use borrow.Author.Tests.{not-true, not-false}
-use lib.ListN.{length}
-use Rattle.laws.specs.Parts.{onto}
 use Rattle.rules.proofs.Sizes.{sizes-told}
 use Rattle.node.proofs.Sound.{sound-told}
-use Rattle.closing.proofs.Answers.{gathered-most, gathered-length, mergeable, joins-new-log, unsound-state, too-soon, no-log, exceeds, too-short, closes}
+use Rattle.closing.proofs.Answers.{gathered-most, gathered-length, mergeable, unsound-state, too-soon, no-log, exceeds, too-short, closes}
 use borrow.Author.Needs.{needs}
 use Rattle.closing.proofs.close.Statement.{statement}
 use Rattle.closing.proofs.close.Tie as tie
@@ -93,8 +89,8 @@ returns-4 c =
     let sound = sym (d .before .before .before .before .before .before .is-sound .ensures) ∙ not-false _ (d .before .before .before .before .before .if1 .left) in
     let log = sym (d .before .is-log .ensures) ∙ not-false _ (d .if3 .left) in
     let g = c .before .before .before .before .before .gather in
-    let new = joins-new-log (a .node) sound (g .result) (g .ensures) (now (a .old)) log in
-    exceeds (a .node) (now (a .old)) (now (a .output)) sound (omega arith) log (omega (arith, c .before .before .joined-length .ensures, ap length new)) _ (c .refused4 .ensures)
+    let size = c .before .before .joined-length in
+    exceeds (a .node) (now (a .old)) (now (a .output)) sound (omega arith) log (g .result) (g .ensures) (size .result) (size .ensures) (omega arith) _ (c .refused4 .ensures)
 
 refused-requires-5 : tie.Need-refused-requires-5
 refused-requires-5 c κs = search needs
@@ -106,9 +102,8 @@ returns-5 c =
     let sound = sym (d .before .before .before .before .before .before .is-sound .ensures) ∙ not-false _ (d .before .before .before .before .before .if1 .left) in
     let log = sym (d .before .is-log .ensures) ∙ not-false _ (d .if3 .left) in
     let g = c .before .before .before .before .before .before .gather in
-    let new = joins-new-log (a .node) sound (g .result) (g .ensures) (now (a .old)) log in
-    let l = c .before .before .before .joined-length .ensures ∙ ap length new in
-    too-short (a .node) (now (a .old)) (now (a .output)) sound (omega arith) log (omega (arith, l)) (omega (arith, l)) _ (c .refused5 .ensures)
+    let size = c .before .before .before .joined-length in
+    too-short (a .node) (now (a .old)) (now (a .output)) sound (omega arith) log (g .result) (g .ensures) (size .result) (size .ensures) (omega arith) (omega arith) _ (c .refused5 .ensures)
 
 merge-requires : tie.Need-merge-requires
 merge-requires c κs =
@@ -129,10 +124,8 @@ returns-6 c =
     let sound = sym (d .before .before .before .before .before .before .is-sound .ensures) ∙ not-false _ (d .before .before .before .before .before .if1 .left) in
     let log = sym (d .before .is-log .ensures) ∙ not-false _ (d .if3 .left) in
     let g = c .before .before .before .before .before .before .before .before .before .gather in
-    let new = joins-new-log (a .node) sound (g .result) (g .ensures) (now (a .old)) log in
-    let l = c .before .before .before .before .before .before .joined-length .ensures ∙ ap length new in
-    closes (a .node) (now (a .old)) (now (a .output)) sound (omega arith) log (omega (arith, l)) (omega (arith, l)) _ l _
-    (c .before .before .merge .ensures .1 ∙ ap (λ (log : List ℕ). onto log (now (a .output))) new)
+    let size = c .before .before .before .before .before .before .joined-length in
+    closes (a .node) (now (a .old)) (now (a .output)) sound (omega arith) log (g .result) (g .ensures) (size .result) (size .ensures) (omega arith) (omega arith) _ (c .before .before .merge .ensures .1)
 
 pub close-spec : {M : Type 1} → statement M
 close-spec =
