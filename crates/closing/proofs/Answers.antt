@@ -16,7 +16,7 @@ use Rattle.rules.proofs.Joins.{joined-ascends, joined-first}
 use Rattle.node.specs.State.{soundNode}
 use Rattle.node.specs.declared.Node.{Node}
 use Rattle.node.proofs.Sound.{sound-told}
-use Rattle.closing.specs.Close.{decisionsOf, newLog, closeNumber, refusedClose, Close}
+use Rattle.closing.specs.Close.{decisionsOf, newLogOf, closeNumber, refusedClose, Close}
 use Rattle.closing.specs.Merge.{Mergeable}
 use Rattle.closing.specs.Gather.{decidedMost, gatheredOf, Gathers}
 use Rattle.closing.specs.declared.Closed.{Closed}
@@ -39,7 +39,7 @@ module _ (s : Node) (sound : soundNode s ≡ true) (g : Gathered) (h : Gathers (
       new-most = omega (arith, gathered-length, gathered-most);
     }
 
-    joins-new-log : join old (gatheredOf g) ≡ newLog s old
+    joins-new-log : join old (gatheredOf g) ≡ newLogOf s old
     joins-new-log = ap (join old) (h .gathers) ∙ joined-first old (log-ascends old log) (decisionsOf s)
 
 -- ---- the rows
@@ -65,10 +65,10 @@ module _ (s : Node) (old output : List ℕ) where
 
       -- what is gathered is joined with a log
       module _ (log : isLog old ≡ true) (g : Gathered) (h : Gathers (s .me) (s .own) (s .kept) (s .n) g) (size : ℕ) (l : size ≡ length (join old (gatheredOf g))) where
-        new : join old (gatheredOf g) ≡ newLog s old
+        new : join old (gatheredOf g) ≡ newLogOf s old
         new = joins-new-log s sound g h old log
 
-        counted : length (newLog s old) ≡ size
+        counted : length (newLogOf s old) ≡ size
         counted = sym (l ∙ ap length new)
 
         pub exceeds : logMost < size → (r : Closed) → r ≡ refusedClose 8 → Close s old output r output

@@ -19,7 +19,7 @@ use Rattle.node.specs.declared.Made.{Made}
 use Rattle.node.specs.declared.Node.{Node}
 use Rattle.node.proofs.Lists.{batch-entries}
 use Rattle.node.proofs.Sound.{of-is-sound}
-use Rattle.closing.specs.Close.{decisionsOf, newLog, closeNumber, Close}
+use Rattle.closing.specs.Close.{decisionsOf, newLogOf, closeNumber, Close}
 use Rattle.closing.specs.declared.Closed.{Closed}
 use Rattle.log_examples.specs.Logs.{fullEntry, full}
 use Rattle.log_examples.specs.Nodes.{aloneWith}
@@ -58,8 +58,8 @@ module _ (es : List ℕ) (b : isBatch es ≡ true) where
     same : s ≡ alone
     same = is ∙ ap aloneWith owns
 
-    news : newLog s old ≡ new
-    news = ap (λ (t : Node). newLog t old) same ∙ ap (joined old) alone-decides ∙ e
+    news : newLogOf s old ≡ new
+    news = ap (λ (t : Node). newLogOf t old) same ∙ ap (joined old) alone-decides ∙ e
 
     sound : soundNode s ≡ true
     sound = ap soundNode same ∙ alone-sound
