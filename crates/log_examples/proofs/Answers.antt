@@ -13,7 +13,7 @@ use Rattle.rules.proofs.Sizes.{too-long, not-too-long}
 use Rattle.log.specs.Bar.{counts, barOf, barNumber, BarIs}
 use Rattle.log.specs.declared.MeterBar.{MeterBar}
 use Rattle.log_examples.specs.Logs.{full}
-use Rattle.log_examples.proofs.Full.{full-length, all-but-one, full-ascends, full-bar}
+use Rattle.log_examples.proofs.Full.{full-length, full-take, full-ascends, full-bar}
 
 -- an entry of meter 3
 abbrev inInterval : (interval wattHours : ℕ) → ℕ
@@ -68,7 +68,7 @@ module _ (log : List ℕ) (e : log ≡ full (logMost + 1)) where
   too-many-is-7 = simp (too-long log (omega (arith, one-too-many)))
 
   at-limit : take logMost log ≡ full logMost
-  at-limit = ap (take logMost) e ∙ all-but-one logMost
+  at-limit = ap (take logMost) e ∙ full-take logMost (logMost + 1) (omega arith)
 
   pub limit-is-done : barNumber (take logMost log) 0 65535 ≡ done
   limit-is-done = ap (λ (l : List ℕ). barNumber l 0 65535) at-limit ∙ full-is-done

@@ -7,8 +7,10 @@ use native.Mathlib.Numerals.{add-one}
 use native.Mathlib.Omega.{arith}
 use borrow.Author.Tests.{eq-eqb, le-leb, lt-ltb}
 use lib.ListN.{length, take, set}
-use lib.Seq.{take-at, take-suc-set}
+use lib.Seq.{take-suc-set}
 use Rattle.laws.specs.Order.{ascendsFrom, ascends}
+use Rattle.laws.specs.Join.{insert}
+use Rattle.laws.proofs.Join.{insert-after}
 use Rattle.log.specs.Bar.{counts, barOf}
 use Rattle.log_examples.specs.Logs.{fullEntry, fullFrom, full}
 
@@ -38,9 +40,27 @@ pub full-length : (n : ℕ) → length (full n) ≡ n
 unfolding full
 full-length n = from-length 0 n
 
--- without its last entry it is the full log of one less
-pub all-but-one : (n : ℕ) → take n (full (n + 1)) ≡ full n
-all-but-one n = ap (take n) (more n) ∙ take-at (full n) (fullEntry n ∷ []) n (full-length n)
+from-take : (i k n : ℕ) → k ≤ n → take k (fullFrom i n) ≡ fullFrom i k
+from-take i zero n l = refl
+from-take i (suc k) zero l = absurd (omega arith)
+from-take i (suc k) (suc n) l = ap (λ (es : List ℕ). fullEntry i ∷ es) (from-take (suc i) k n (omega arith))
+
+-- the first entries of a full log are one
+pub full-take : (k n : ℕ) → k ≤ n → take k (full n) ≡ full k
+unfolding full
+full-take k n l = from-take 0 k n l
+
+from-insert : (i n : ℕ) → insert (fullEntry (i + n)) (fullFrom i n) ≡ fullFrom i (suc n)
+from-insert i zero = ap (λ (k : ℕ). fullEntry k ∷ []) (omega arith)
+from-insert i (suc n) =
+    let e : i + suc n ≡ suc i + n = omega arith in
+    insert-after (fullEntry (i + suc n)) (fullEntry i) (fullFrom (suc i) n) (omega arith)
+    ∙ ap (λ (es : List ℕ). fullEntry i ∷ es) (ap (λ (k : ℕ). insert (fullEntry k) (fullFrom (suc i) n)) e ∙ from-insert (suc i) n)
+
+-- its next entry makes it one longer
+pub full-insert : (n : ℕ) → insert (fullEntry n) (full n) ≡ full (n + 1)
+unfolding full
+full-insert n = ap (λ (k : ℕ). insert (fullEntry k) (fullFrom 0 n)) (omega arith) ∙ from-insert 0 n ∙ ap (fullFrom 0) (sym (add-one n))
 
 from-ascends : (last i n : ℕ) → last < fullEntry i → ascendsFrom last (fullFrom i n) ≡ true
 from-ascends last i zero h = refl

@@ -1,9 +1,15 @@
 // The log's examples, run: each is a call whose answer the proof shows to be the expected one.
 ghost use mathlib.Core.Path.{_≡_};
+ghost use mathlib.Core.List.{[], _∷_};
 ghost use Prim.Native.Nat.{_+_};
 ghost use Rattle.rules.specs.Sizes.{logMost};
+ghost use Rattle.node.specs.Batches.{batchOf};
 ghost use Rattle.log_examples.specs.Logs.{full};
+ghost use Rattle.log_examples.specs.Nodes.{aloneWith};
+use closing::close;
 use log::bar;
+use node::Batch;
+use node::Node;
 use rules::LOG_MOST;
 
 // What meter and interval weigh in an entry.
@@ -23,6 +29,12 @@ const IN_5: u64 = 3 * METER + 5 * INTERVAL + 70;
 const IN_6: u64 = 3 * METER + 6 * INTERVAL + 2;
 
 const IN_7: u64 = 3 * METER + 7 * INTERVAL + 4;
+// One entry fewer than a log may have.
+const ONE_TOO_FEW: usize = LOG_MOST - 1;
+// The entries that come next in the log below, meter 0 in the intervals 4,095 and 4,096.
+const LAST: u64 = 4095 * INTERVAL + WATT_HOURS_MOST;
+
+const BEYOND: u64 = 4096 * INTERVAL + WATT_HOURS_MOST;
 
 fn both_ends_are_included() {
     let log = [IN_4, IN_5, IN_6, IN_7];
@@ -77,6 +89,64 @@ fn a_log_of_one_too_many_is_7() {
     check::expect(answer.number == 7);
 }
 
+fn batch_of_one(entry: u64) -> Batch
+    ensures { λ r. ⌜ r ≡ batchOf (entry ∷ []) ⌝ }
+{
+    Batch {
+        count: 1,
+        entries: [entry, 0, 0, 0, 0, 0, 0, 0, 0, 0, 0, 0, 0, 0, 0, 0],
+    }
+}
+
+fn batch_of_two(first: u64, second: u64) -> Batch
+    ensures { λ r. ⌜ r ≡ batchOf (first ∷ second ∷ []) ⌝ }
+{
+    Batch {
+        count: 2,
+        entries: [first, second, 0, 0, 0, 0, 0, 0, 0, 0, 0, 0, 0, 0, 0, 0],
+    }
+}
+
+// A node alone, its rounds over.
+fn alone(own: Batch) -> Node
+    ensures { λ r. ⌜ r ≡ aloneWith own ⌝ }
+{
+    let mut node = Node::new(1, 0, 0).node;
+    node.phase = 2;
+    node.own = own;
+    node
+}
+
+// The close of P1, into an output with a place to spare.
+fn alone_the_log_is_the_own_batch() {
+    let node = alone(batch_of_one(1));
+    let old = [0u64; 1];
+    let mut output = [7u64; 2];
+    let answer = close(node, &old[..0], &mut output);
+    check::expect(answer.number == 0);
+    check::expect(answer.length == 1);
+    check::expect(output[0] == 1);
+    check::expect(output[1] == 7);
+}
+
+fn an_old_log_of_4095_and_one_new_is_done() {
+    let log = full_log_and_one();
+    let node = alone(batch_of_one(LAST));
+    let mut output = [0u64; LOG_MOST];
+    let answer = close(node, &log[..ONE_TOO_FEW], &mut output);
+    check::expect(answer.number == 0);
+    check::expect(answer.length == LOG_MOST);
+}
+
+fn an_old_log_of_4095_and_two_new_is_8() {
+    let log = full_log_and_one();
+    let node = alone(batch_of_two(LAST, BEYOND));
+    let mut output = [0u64; ONE_TOO_MANY];
+    let answer = close(node, &log[..ONE_TOO_FEW], &mut output);
+    check::expect(answer.number == 8);
+    check::expect(answer.length == 0);
+}
+
 fn main() {
     both_ends_are_included();
     a_bar_with_none_is_0();
@@ -84,4 +154,7 @@ fn main() {
     equal_neighbours_are_7();
     a_bar_at_its_limit();
     a_log_of_one_too_many_is_7();
+    alone_the_log_is_the_own_batch();
+    an_old_log_of_4095_and_one_new_is_done();
+    an_old_log_of_4095_and_two_new_is_8();
 }

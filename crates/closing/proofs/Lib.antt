@@ -1,0 +1,4 @@
+pub mod Merges
+pub mod Gathering
+pub mod Answers
+pub mod Determined

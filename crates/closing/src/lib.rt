@@ -1,0 +1,51 @@
+// The close: the new log is the old log joined with all n decisions.
+ghost use mathlib.Core.Path.{_≡_};
+ghost use Rattle.closing.specs.Close.{Close, refusedClose};
+
+mod decisions; // decisions.rt: the entries of all n decisions, gathered once
+mod merging; // merging.rt: entries joined with ascending new ones, in one pass
+
+use log::is_log;
+use node::Node;
+use rules::LOG_MOST;
+
+// A refusal's number or 0, and the length of the new log.
+pub struct Closed {
+    pub number: u8,
+    pub length: usize,
+}
+
+// A refusal: the number, and nothing else of use.
+fn refused(number: u8) -> Closed
+    ensures { λ r. ⌜ r ≡ refusedClose number ⌝ }
+{
+    Closed { number, length: 0 }
+}
+
+// The old log joined with all n decisions, written into the output.
+pub fn close(node: Node, old: &[u64], output: &mut [u64]) -> Closed
+    ensures { λ r. ⌜ Close node (now (old .entry)) (now (output .entry)) r (now (output .exit)) ⌝ }
+{
+    if !node::is_sound(node) {
+        return refused(2);
+    }
+    if node.phase < node.f + 2 {
+        return refused(3);
+    }
+    if !is_log(old) {
+        return refused(7);
+    }
+    let gathered = decisions::gather(node);
+    let count = gathered.count;
+    let entries = gathered.entries;
+    let new = &entries[..count];
+    let length = merging::joined_length(old, new);
+    if LOG_MOST < length {
+        return refused(8);
+    }
+    if output.len() < length {
+        return refused(9);
+    }
+    merging::merge(old, new, output);
+    Closed { number: 0, length }
+}
