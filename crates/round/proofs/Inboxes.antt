@@ -13,11 +13,11 @@ use Rattle.laws.proofs.Bits.{mask-bit}
 use Rattle.laws.proofs.Tests.{clash, both}
 use Rattle.rules.specs.Sizes.{sized}
 use Rattle.rules.specs.Vote.{Vote}
-use Rattle.rules.specs.Step.{gather, takenUp}
+use Rattle.rules.specs.Step.{others, gather, takenUp}
 use Rattle.wire.specs.Message.{votesOf, silent}
 use Rattle.wire.specs.Inbox.{placeOf, endAt, messageOf, isUnreadable, unreadableSenders}
 use Rattle.wire.proofs.Cuts.{Told, too-short, own-place}
-use Rattle.round.specs.Found.{votesIn, heardFrom, others, takesUp, Take, TakeMessage, TakeInbox}
+use Rattle.round.specs.Found.{votesIn, heardFrom, takesUp, Take, TakeMessage, TakeInbox}
 use Rattle.round.specs.declared.Found.{Found}
 use Rattle.round.proofs.Takes.{take-none, take-join}
 

@@ -1,4 +1,5 @@
 -- A message, record by record: what takes up the votes that are left takes up all, once those before are taken up.
+use Rattle.rules.specs.Step.{others}
 use Prim.Native.Nat.{ℕ, _+_, _*_, _-_, _/_, _≤_, _<_}
 use mathlib.Core.Path.{_≡_, refl, sym, ap, subst, _∙_}
 use mathlib.Core.Logic.{⊎-elim}
@@ -21,7 +22,7 @@ use Rattle.wire.specs.Reader.{BatchBytes}
 use Rattle.wire.specs.Message.{before, votesAfter, votesOf, silent}
 use Rattle.wire.proofs.Readings.{Told, readable-whole}
 use Rattle.wire.proofs.Messages.{none-left, one-more, stuck, too-long, short-enough}
-use Rattle.round.specs.Found.{votesIn, others, Take, TakeMessage}
+use Rattle.round.specs.Found.{votesIn, Take, TakeMessage}
 use Rattle.round.specs.declared.Found.{Found}
 use Rattle.round.proofs.Takes.{take-none, take-join}
 

@@ -14,12 +14,12 @@ use Rattle.laws.specs.Members.{among}
 use Rattle.laws.proofs.Tests.{clash, both}
 use Rattle.rules.specs.Sizes.{nodesMost}
 use Rattle.rules.specs.Vote.{Batch, Vote, shows, accepted}
-use Rattle.rules.specs.Step.{gather, keptMost, keeps, newly, keptAfter}
+use Rattle.rules.specs.Step.{others, gather, keptMost, keeps, newly, keptAfter}
 use Rattle.rules.proofs.Newly.{newly-snoc}
 use Rattle.rules.proofs.Gathered.{each-at, each-set}
 use Rattle.node.specs.Batches.{batchOf}
 use Rattle.node.specs.declared.Batch.{Batch as BatchHeld}
-use Rattle.round.specs.Found.{foundFor, foundBy, others, wanted, Keep, Take}
+use Rattle.round.specs.Found.{foundFor, foundBy, wanted, Keep, Take}
 use Rattle.round.specs.declared.Found.{Found}
 
 module _ (r : ℕ) where

@@ -1,4 +1,5 @@
 -- Before each record: what takes up the votes that are left takes up all. A record's vote changes what is found for its primary, if it is wanted.
+use Rattle.rules.specs.Step.{others}
 use Prim.Native.Nat.{_-_, _≤_, _<_}
 use mathlib.Core.Path.{ap, subst, _∙_}
 use mathlib.Core.Logic.{⊎-elim}
@@ -13,7 +14,7 @@ use Rattle.wire.specs.Record.{batchOf}
 use Rattle.wire.specs.Reader.{ReadRecord}
 use Rattle.wire.proofs.Readings.{Told, vote-told, unreadable-told, refused-told, readable-whole}
 use Rattle.node.specs.Batches.{batchOf as batchHeld}
-use Rattle.round.specs.Found.{others, Take}
+use Rattle.round.specs.Found.{Take}
 use Rattle.round.proofs.Takes.{vote-left, vote-kept}
 use Rattle.round.proofs.Messages.{ends-within, few-bytes, its-batch, Reached, at-start, next-vote, no-vote, at-end, no-nodes}
 use borrow.Author.Needs.{needs}
