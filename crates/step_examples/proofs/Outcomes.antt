@@ -94,7 +94,20 @@ pub p8-kept : keptAt (steppedNode (before 2) p8 .kept) 0 .count ≡ 0
 unfolding gather takenUp keeps newly accepted shows ones votesOf votesAfter unreadable entriesOf entryOf placeOf messageOf
 p8-kept = refl
 
--- ---- P6 and P7: three batches in one message
+-- ---- P6: two batches in one message
+
+abbrev pub p6 : List ℕ
+p6 = from0 24 (one 1 1 ++ one 1 2)
+
+pub p6-done : stepNumber (before 1) p6 24 ≡ done
+unfolding stepNumber soundNode keptRight soundKept soundBatch soundTray isBatch sizes sized every gather wellCut placeOf takenUp keeps newly accepted shows ones passedOn passesOn votesOf votesAfter unreadable entriesOf entryOf messageOf messageBytes recordBytes entriesBytes entryBytes
+p6-done = refl
+
+pub p6-kept : keptAt (steppedNode (before 1) p6 .kept) 0 .count ≡ 2
+unfolding gather takenUp keeps newly accepted shows ones votesOf votesAfter unreadable entriesOf entryOf placeOf messageOf
+p6-kept = refl
+
+-- ---- P7: three batches in one message
 
 abbrev pub p7 : List ℕ
 p7 = from0 36 (one 1 1 ++ (one 1 2 ++ one 1 3))
@@ -111,7 +124,18 @@ pub p7-outbox : messageBytes (passedBy (before 1) p7) ≡ one 3 1 ++ one 3 2
 unfolding gather takenUp keeps newly accepted shows ones passedOn passesOn votesOf votesAfter unreadable entriesOf entryOf placeOf messageOf messageBytes recordBytes entriesBytes entryBytes
 p7-outbox = refl
 
--- ---- P10: an empty batch, then another
+-- ---- P10: an empty batch alone, and then another
+
+abbrev pub empty : List ℕ
+empty = from0 4 (0 ∷ 0 ∷ 1 ∷ 0 ∷ [])
+
+pub empty-done : stepNumber (before 1) empty 4 ≡ done
+unfolding stepNumber soundNode keptRight soundKept soundBatch soundTray isBatch sizes sized every gather wellCut placeOf takenUp keeps newly accepted shows ones passedOn passesOn votesOf votesAfter unreadable entriesOf entryOf messageOf messageBytes recordBytes entriesBytes entryBytes
+empty-done = refl
+
+pub empty-kept : keptAt (steppedNode (before 1) empty .kept) 0 .count ≡ 1
+unfolding gather takenUp keeps newly accepted shows ones votesOf votesAfter unreadable entriesOf entryOf placeOf messageOf
+empty-kept = refl
 
 abbrev pub p10 : List ℕ
 p10 = from0 16 (0 ∷ 0 ∷ 1 ∷ 0 ∷ one 1 1)

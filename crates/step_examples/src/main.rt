@@ -73,7 +73,49 @@ fn without_the_primarys_bit_it_is_not_kept() {
     check::expect(its.count == 0);
 }
 
-// P6 and P7: of three batches of primary 0 in one message two are kept and passed on, each with the own bit added; the third is dropped.
+// P6: two batches of primary 0 in one message: both kept.
+fn two_batches_in_one_message_are_kept() {
+    let inbox = [
+        24u8,
+        0,
+        0,
+        1,
+        1,
+        0,
+        0,
+        0,
+        0,
+        0,
+        0,
+        0,
+        0,
+        1,
+        0,
+        1,
+        1,
+        0,
+        0,
+        0,
+        0,
+        0,
+        0,
+        0,
+        0,
+        2,
+        0,
+        0,
+        0,
+        0,
+    ];
+    let mut outbox = [0u8; 24];
+    let stepped = step::step(opened(), &inbox, &mut outbox);
+    check::expect(stepped.number == 0);
+    let after = stepped.node;
+    let its = after.kept[0];
+    check::expect(its.count == 2);
+}
+
+// P7: of three batches of primary 0 in one message two are kept and passed on, each with the own bit added; the third is dropped.
 fn a_third_batch_is_dropped() {
     let inbox = [
         36u8,
@@ -155,6 +197,17 @@ fn a_third_batch_is_dropped() {
     check::expect(its.count == 2);
 }
 
+// P10: an empty batch alone is kept.
+fn an_empty_batch_alone_is_kept() {
+    let inbox = [4u8, 0, 0, 0, 1, 0, 0, 0, 0, 0];
+    let mut outbox = [0u8; 4];
+    let stepped = step::step(opened(), &inbox, &mut outbox);
+    check::expect(stepped.number == 0);
+    let after = stepped.node;
+    let its = after.kept[0];
+    check::expect(its.count == 1);
+}
+
 // P10: an empty batch, then another: both are kept.
 fn an_empty_batch_kept_is_a_kept_batch() {
     let inbox = [
@@ -193,6 +246,8 @@ fn main() {
     a_node_alone_opens_and_steps();
     one_witness_in_round_2_is_not_kept();
     without_the_primarys_bit_it_is_not_kept();
+    two_batches_in_one_message_are_kept();
     a_third_batch_is_dropped();
+    an_empty_batch_alone_is_kept();
     an_empty_batch_kept_is_a_kept_batch();
 }
