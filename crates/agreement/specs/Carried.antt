@@ -1,0 +1,44 @@
+-- A run that is carried whole: "Each outbox goes whole to every other node", "in a run the transport cuts every inbox well", and what the faulty nodes send
+-- is given.
+use Prim.Native.Nat.{ℕ, zero, suc}
+use mathlib.Core.Bool.{Bool, cond}
+use mathlib.Core.List.{List, [], _∷_}
+use lib.Dec.{eqb, leb}
+use Rattle.rules.specs.Sizes.{logMost}
+use Rattle.rules.specs.Step.{gather}
+use Rattle.wire.specs.Sizes.{messageMost}
+use Rattle.wire.specs.Inbox.{inboxBytes}
+use Rattle.tray.specs.declared.Tray.{Tray}
+use Rattle.step.specs.Course.{outbox}
+use Rattle.agreement.specs.Hall.{Hall}
+
+-- given r j i: the message of faulty node j to node i in round r
+module _ (n f : ℕ) (faulty : ℕ → Bool) (tray : ℕ → Tray) (given : ℕ → ℕ → ℕ → List ℕ) (old : List ℕ) where
+  -- the message of node j to node i in round r, of which node i's own is silence; sent j: what correct node j sends
+  abbrev pub message : (r i : ℕ) (sent : ℕ → List ℕ) (j : ℕ) → List ℕ
+  message r i sent j = cond (eqb j i) [] (cond (faulty j) (given r j i) (sent j))
+
+  -- the inbox of node i in round r
+  abbrev pub carried : (r i : ℕ) (sent : ℕ → List ℕ) → List ℕ
+  carried r i sent = inboxBytes (gather (λ (j : ℕ). message r i sent j ∷ []) n)
+
+  -- room for a whole message
+  abbrev pub roomy : ℕ → ℕ
+  roomy r = messageMost
+
+  -- what node i is handed in round q, as far as round r is played
+  unfoldable pub handed : (r i q : ℕ) → List ℕ
+  handed zero i q = []
+  handed (suc r) i q = cond (leb q r) (handed r i q) (carried (suc r) i (λ (j : ℕ). outbox n f j (tray j) (handed r j) roomy (suc r)))
+
+  abbrev pub carriedHall : Hall
+  carriedHall = record {
+    n = n;
+    f = f;
+    faulty = faulty;
+    tray = tray;
+    inbox = λ i r. handed r i r;
+    room = λ i. roomy;
+    old = old;
+    output = λ i. logMost;
+  }

@@ -1,0 +1,5 @@
+pub mod Hall
+pub mod Granted
+pub mod Claim
+pub mod Rule
+pub mod Carried

@@ -1,0 +1,12 @@
+// Demand 3 in bytes: of the states, outboxes, logs and counts that the promises of `Node::new`, `open`, `step`, `close` and `signers` name (specs/).
+ghost use mathlib.Core.Path.{_≡_};
+ghost use mathlib.Core.Bool.{true};
+ghost use Rattle.agreement.specs.Claim.{Demand3};
+
+// In every run that keeps what the demand grants, all correct nodes make the same log or are all told that it is full, and they find the signers of its
+// mark and of no other.
+pub fn demand_3_holds() -> bool
+    ensures { λ r. ⌜ (r ≡ true) × Demand3 ⌝ }
+{
+    true
+}
