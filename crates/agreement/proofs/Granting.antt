@@ -35,7 +35,7 @@ some-same : {A : Type 0} {x y : A} → some x ≡ some y → x ≡ y
 some-same e = cc
 
 -- a vote that is heard stands in a readable message
-heard-in : (o : Option (List Vote)) (v : Vote) → In v (votesIn o) → (votes : List Vote) × (o ≡ some votes) × In v votes
+pub heard-in : (o : Option (List Vote)) (v : Vote) → In v (votesIn o) → (votes : List Vote) × (o ≡ some votes) × In v votes
 heard-in none v m = absurd m
 heard-in (some votes) v m = (votes, refl, m)
 
