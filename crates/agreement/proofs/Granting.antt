@@ -29,7 +29,7 @@ module _ (hall : Hall) (G : Granted hall) where
   -- nothing hinders a correct node
   pub unhindered : (i : ℕ) → Correct hall i → Unhindered hall i
   unhindered i ci = record {
-    numbers = majority (hall .n) (hall .f) i (G .nodes) (G .above) ∙ lt-ltb i (hall .n) (ci .node);
+    numbers = majority (hall .n) (hall .f) i (G .nodes) (omega (arith, G .above)) ∙ lt-ltb i (hall .n) (ci .node);
     tray = G .trays i ci;
     entries = G .entries i ci;
     room = G .room i ci;

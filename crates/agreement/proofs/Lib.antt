@@ -6,3 +6,5 @@ pub mod Demand3
 pub mod Shown
 pub mod SentBy
 pub mod Carried
+pub mod AllCorrect
+pub mod Calls

@@ -119,12 +119,12 @@ module _ (hall : Hall) (i : ℕ) (U : Unhindered hall i) where
 
   -- a record that it sent is a vote that the rules sent
   pub sent-ruled : (r p : ℕ) (b : Batch) → r ≤ hall .f + 1 → HasSent hall r i p b → Sent (overVotes hall) r i p b
-  sent-ruled r p b l s = record { round = s .round; by = s .by; vote = s .vote; its = its (s .round) refl; of = s .of; says = s .says }
+  sent-ruled r p b l s = record { round = s .round; by = omega (arith, s .by); vote = s .vote; its = its (s .round) refl; of = s .of; says = s .says }
     where
       its : (q : ℕ) → s .round ≡ q → In (s .vote) (sent (overVotes hall) (s .round) i)
       its zero e =
           let none-sent : s .votes ≡ [] = some-same (sym (s .read) ∙ ap (λ (k : ℕ). votesOf n (sends hall i k)) e ∙ sends-nothing hall i) in
           absurd (subst (In (s .vote)) none-sent (s .its))
       its (suc q) e =
-          let round : Round hall (s .round) = record { first = omega arith; last = le-trans (s .by) l } in
+          let round : Round hall (s .round) = record { first = omega arith; last = omega (arith, s .by) } in
           subst (In (s .vote)) (some-same (sym (s .read) ∙ sends-read (s .round) round)) (s .its)
