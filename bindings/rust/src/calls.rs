@@ -1,9 +1,8 @@
 //! Each call of libhost.a as a safe function with its whole answer, refusals in numbers. A lent output is a `&mut` slice, so it overlaps no input.
-pub use crate::ffi::{
-    BatchPart, Closed, Counted, Heard, Made, MeterBar, Node, Opened, SigningCount, Stepped, ToldMessage, ToldRecord,
-    ToldWritten, Tray,
-};
 use crate::ffi::*;
+pub use crate::ffi::{
+    BatchPart, Closed, Counted, Heard, Made, MeterBar, Node, Opened, SigningCount, Stepped, ToldMessage, ToldRecord, ToldWritten, Tray,
+};
 
 // Each call reads the slices that it is handed and writes the lent ones, within their lengths, and keeps no pointer: that is proved of libhost.a for any
 // values. The borrows give what the header asks of a host: the memory is there, and lent memory is nobody else's.
@@ -53,9 +52,7 @@ pub fn read_message(n: usize, message: &[u8]) -> ToldMessage {
 }
 
 pub fn write_record(n: usize, primary: usize, mask: u16, entries: &[u64], output: &mut [u8]) -> ToldWritten {
-    unsafe {
-        raudokiin_write_record(n, primary, mask, entries.as_ptr(), entries.len(), output.as_mut_ptr(), output.len())
-    }
+    unsafe { raudokiin_write_record(n, primary, mask, entries.as_ptr(), entries.len(), output.as_mut_ptr(), output.len()) }
 }
 
 pub fn read_inbox(n: usize, me: usize, inbox: &[u8]) -> Heard {

@@ -125,28 +125,9 @@ extern "C" {
     pub fn raudokiin_place(entries: *mut u64, count: usize, entry: u64) -> Counted;
     pub fn raudokiin_new(n: usize, f: usize, me: usize) -> Made;
     pub fn raudokiin_open(node: Node, tray: Tray, outbox: *mut u8, outbox_length: usize) -> Opened;
-    pub fn raudokiin_step(
-        node: Node,
-        inbox: *const u8,
-        inbox_length: usize,
-        outbox: *mut u8,
-        outbox_length: usize,
-    ) -> Stepped;
-    pub fn raudokiin_close(
-        node: Node,
-        old: *const u64,
-        old_length: usize,
-        output: *mut u64,
-        output_length: usize,
-    ) -> Closed;
-    pub fn raudokiin_signers(
-        n: usize,
-        f: usize,
-        me: usize,
-        mark: *const u8,
-        slots: *const u8,
-        slots_length: usize,
-    ) -> SigningCount;
+    pub fn raudokiin_step(node: Node, inbox: *const u8, inbox_length: usize, outbox: *mut u8, outbox_length: usize) -> Stepped;
+    pub fn raudokiin_close(node: Node, old: *const u64, old_length: usize, output: *mut u64, output_length: usize) -> Closed;
+    pub fn raudokiin_signers(n: usize, f: usize, me: usize, mark: *const u8, slots: *const u8, slots_length: usize) -> SigningCount;
     pub fn raudokiin_bar(log: *const u64, log_length: usize, meter: u16, first: u16, last: u16) -> MeterBar;
     pub fn raudokiin_read_record(n: usize, part: *const u8, part_length: usize) -> ToldRecord;
     pub fn raudokiin_batch_bytes(n: usize, part: *const u8, part_length: usize) -> BatchPart;
