@@ -1,0 +1,5 @@
+pub mod Follows
+pub mod Sendings
+pub mod Granting
+pub mod Closes
+pub mod Demand3

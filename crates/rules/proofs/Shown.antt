@@ -12,7 +12,7 @@ use lib.Pow.{pow-lt}
 use Rattle.laws.specs.Members.{In}
 use Rattle.rules.specs.Vote.{Vote, shows, opened, passedOn}
 use Rattle.rules.specs.Run.{Run, votesAt, kept, newAt, sent}
-use Rattle.rules.specs.Premises.{Correct, HasSent, Premises}
+use Rattle.rules.specs.Premises.{Correct, Faulty, HasSent, Premises}
 use Rattle.rules.proofs.Votes.{shown-before, opened-shows}
 use Rattle.rules.proofs.Inbox.{TakenUp, taken-of, PassedOn}
 use Rattle.rules.proofs.Sent.{new-vote, passed-of}
@@ -40,9 +40,10 @@ module _ (run : Run) (P : Premises run) where
 
       go : (b : Bool) → run .faulty j ≡ b → Shown (suc r) v
       go true e =
+          let fj : Faulty run j = record { node = t .node; lies = e } in
           record {
-            range = P .anything (suc r) i j (suc-le-suc zero-le, l) ci e v (t .heard-it);
-            shown = P .unforged (suc r) i j (suc-le-suc zero-le, l) ci e v (t .heard-it);
+            range = P .anything (suc r) i j (suc-le-suc zero-le, l) ci fj v (t .heard-it);
+            shown = P .unforged (suc r) i j (suc-le-suc zero-le, l) ci fj v (t .heard-it);
           }
       go false e =
           let cj : Correct run j = record { node = t .node; fine = e } in

@@ -25,10 +25,10 @@ module _ (s : Node) (h : soundNode s ≡ true) where
   step-sound inbox room (suc k) e = h
 
 module _ (n f me : ℕ) (tray : Tray) (inbox : ℕ → List ℕ) (room : ℕ → ℕ) (h : sizes n f me ≡ true) where
-  made-is-fresh : made n f me ≡ fresh n f me
+  pub made-is-fresh : made n f me ≡ fresh n f me
   made-is-fresh = simp h
 
-  made-sound : soundNode (made n f me) ≡ true
+  pub made-sound : soundNode (made n f me) ≡ true
   made-sound = ap soundNode made-is-fresh ∙ fresh-is-sound n f me h
 
   pub course-sound : (r : ℕ) → soundNode (after n f me tray inbox room r) ≡ true
