@@ -3,3 +3,8 @@ pub mod Sendings
 pub mod Granting
 pub mod Closes
 pub mod Demand3
+pub mod Shown
+pub mod SentBy
+pub mod Carried
+pub mod AllCorrect
+pub mod Calls
