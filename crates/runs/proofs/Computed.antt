@@ -1,7 +1,7 @@
 -- Each run is what the definitions compute to.
 use mathlib.Core.Path.{refl}
 use lib.Count.{ones}
-use Rattle.laws.specs.Masks.{maskOf, every}
+use Rattle.laws.specs.Masks.{count, maskOf, every}
 use Rattle.rules.specs.Sizes.{sized, sizes, isBatch, fits, isLog}
 use Rattle.rules.specs.Vote.{shows, opened, accepted, passedOn}
 use Rattle.rules.specs.Step.{gather, takenUp, keeps, newly, passesOn}
@@ -22,22 +22,24 @@ use Rattle.signing.specs.Slots.{slotIn}
 use Rattle.signing.specs.Count.{signersNumber}
 use Rattle.agreement.specs.Carried.{handed}
 use Rattle.agreement.specs.Rule.{hasSent, breaksRule}
-use Rattle.runs.specs.Document.{ScheduleRuns}
-use Rattle.runs.specs.Shown.{ShownRuns}
+use Rattle.runs.specs.Document.{schedule, ScheduleRuns}
+use Rattle.runs.specs.Shown.{shown, ShownRuns}
 use Rattle.runs.specs.Forged.{ForgedRuns}
 use Rattle.runs.specs.NextRound.{NextRoundRuns}
-use Rattle.runs.specs.NotWhole.{NotWholeRuns}
+use Rattle.runs.specs.NotWhole.{inbox, NotWholeRuns}
 use Rattle.runs.specs.HalfFaulty.{HalfFaultyRuns}
+use Rattle.runs.proofs.Keeping.{schedule-granted}
 
 pub computed : ScheduleRuns × ShownRuns × ForgedRuns × NextRoundRuns × NotWholeRuns × HalfFaultyRuns
-unfolding sizes sized isBatch fits isLog every gather shows opened accepted passedOn takenUp keeps newly passesOn decision decisions ones entryOf entryBytes entriesOf entriesBytes unreadable recordBytes votesAfter votesOf messageBytes placeOf messageOf wellCut inboxBytes soundTray soundBatch soundKept keptRight soundNode openNumber stepNumber after outbox closeNumber handed hasSent breaksRule maskOf signer signersOf enough slotIn signersNumber
+unfolding inbox sizes sized isBatch fits isLog every gather shows opened accepted passedOn takenUp keeps newly passesOn decision decisions ones entryOf entryBytes entriesOf entriesBytes unreadable recordBytes votesAfter votesOf messageBytes placeOf messageOf wellCut inboxBytes soundTray soundBatch soundKept keptRight soundNode openNumber stepNumber after outbox closeNumber handed hasSent breaksRule count maskOf signer signersOf enough slotIn signersNumber
 computed = (
-  record { bytes = refl; node1 = record { makes = refl; its = refl }; node2 = record { makes = refl; its = refl }; rule = refl },
+  record { bytes = refl; node1 = record { makes = refl; its = refl }; node2 = record { makes = refl; its = refl }; rule = refl; granted = schedule-granted schedule (record { nodes = refl; above = refl; few = refl; trays = refl; entries = refl; messages = refl; rule = refl }) },
   record {
     before = refl;
     not-before = refl;
     that-round = refl;
     rule = refl;
+    granted = schedule-granted shown (record { nodes = refl; above = refl; few = refl; trays = refl; entries = refl; messages = refl; rule = refl });
     kept2 = refl;
     kept3 = refl;
     kept4 = refl;
@@ -58,9 +60,9 @@ computed = (
   record {
     sent = refl;
     lost = refl;
-    whole21 = refl;
-    whole22 = refl;
-    whole12 = refl;
+    whole1 = record { sent = refl; arrives = refl };
+    whole2 = record { sent = refl; arrives = refl };
+    whole3 = record { sent = refl; arrives = refl };
     node1 = record { makes = refl; its = refl };
     node2 = record { makes = refl; its = refl };
   },

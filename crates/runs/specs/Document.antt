@@ -1,9 +1,10 @@
--- Document 01's own schedule: both correct nodes make the log that it prints, and the faulty node keeps the rule on shown votes.
+-- Document 01's own schedule: it keeps what demand 3 grants, and both correct nodes make the log that it prints.
 use Prim.Native.Nat.{ℕ}
 use mathlib.Core.Path.{_≡_}
 use mathlib.Core.Bool.{false}
 use mathlib.Core.List.{List, [], _∷_}
 use Rattle.wire.specs.Message.{messageBytes}
+use Rattle.agreement.specs.Granted.{Granted}
 use Rattle.runs.specs.Schedule.{entry, vote, Schedule, hallOf, breaks, Makes}
 
 -- 000101000003000500000046
@@ -29,3 +30,4 @@ pub record ScheduleRuns : Type 0 where
   pub node1 : Makes (hallOf schedule) 1 printed
   pub node2 : Makes (hallOf schedule) 2 printed
   pub rule : breaks schedule ≡ false ∷ []
+  pub granted : Granted (hallOf schedule)

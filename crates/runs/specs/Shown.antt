@@ -1,5 +1,5 @@
--- A run in which a faulty node shows correct nodes' votes, sent in that round and before, while another primary equivocates: the rule is kept, and all make
--- the same log.
+-- A run in which a faulty node shows correct nodes' votes, sent in that round and before, while another primary equivocates: it keeps what demand 3 grants, and
+-- all correct nodes make the same log.
 use Prim.Native.Nat.{ℕ}
 use mathlib.Core.Path.{_≡_}
 use mathlib.Core.Bool.{true, false}
@@ -7,6 +7,7 @@ use mathlib.Core.List.{List, [], _∷_}
 use Rattle.rules.specs.Vote.{Batch}
 use Rattle.node.specs.State.{keptFor}
 use Rattle.agreement.specs.Hall.{Hall, nodeAfter}
+use Rattle.agreement.specs.Granted.{Granted}
 use Rattle.agreement.specs.Rule.{hasSent}
 use Rattle.runs.specs.Schedule.{entry, vote, sending, Schedule, hallOf, breaks, Makes}
 
@@ -49,6 +50,7 @@ pub record ShownRuns : Type 0 where
   pub not-before : hasSent hall 2 3 0 late ≡ false
   pub that-round : hasSent hall 3 3 0 late ≡ true
   pub rule : breaks shown ≡ false ∷ false ∷ false ∷ false ∷ []
+  pub granted : Granted hall
   -- after round 3 both batches of primary 0 are kept by each
   pub kept2 : keptFor (nodeAfter hall 2 3) 0 ≡ early ∷ late ∷ []
   pub kept3 : keptFor (nodeAfter hall 3 3) 0 ≡ late ∷ early ∷ []
