@@ -1,6 +1,6 @@
 -- A schedule is a run that demand 3 grants where its sizes hold, its trays are sound, its messages are bytes and short, and its lines keep the rule on shown
 -- votes: a message to a correct node is that of a line, or silence. All of it is tested, so that it can be computed.
-use Prim.Native.Nat.{ℕ, zero, suc, _*_, _^_, _≤_, _<_}
+use Prim.Native.Nat.{ℕ, zero, suc, _*_, _^_, _<_}
 use mathlib.Core.Path.{_≡_, refl, ap, _∙_}
 use mathlib.Core.Bool.{Bool, true, false, not, _&&_}
 use mathlib.Core.List.{List, [], _∷_, map}

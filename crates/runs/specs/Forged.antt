@@ -1,9 +1,9 @@
 -- Unforgeability is needed: document 01's schedule with one vote more, which shows the bit of a correct node that never sent it, makes two different logs.
-use Prim.Native.Nat.{ℕ}
 use mathlib.Core.Path.{_≡_}
 use mathlib.Core.Bool.{true, false}
-use mathlib.Core.List.{List, [], _∷_}
-use Rattle.runs.specs.Schedule.{entry, vote, sending, Schedule, hallOf, breaks, Makes}
+use mathlib.Core.List.{[], _∷_}
+use Rattle.log.specs.Fields.{entry}
+use Rattle.runs.specs.Schedule.{vote, sending, Schedule, hallOf, breaks, Makes}
 use Rattle.runs.specs.Document.{schedule, twelve, printed}
 
 -- in round 2 node 0 shows node 1 alone a second batch of its own, with node 2's bit

@@ -5,10 +5,12 @@ use mathlib.Core.Path.{_≡_}
 use mathlib.Core.Bool.{true, false}
 use mathlib.Core.List.{List, [], _∷_}
 use Rattle.rules.specs.Vote.{Batch}
+use Rattle.log.specs.Fields.{entry}
 use Rattle.agreement.specs.Hall.{Hall}
 use Rattle.agreement.specs.Rule.{hasSent}
-use Rattle.runs.specs.Schedule.{entry, vote, sending, Schedule, hallOf, breaks, Makes}
+use Rattle.runs.specs.Schedule.{vote, sending, Schedule, hallOf, breaks, Makes}
 
+-- a batch of primary 0
 abbrev pub batch : Batch
 batch = entry 10 5 1 ∷ []
 
@@ -25,15 +27,19 @@ nextRound = record {
 abbrev pub hall : Hall
 hall = hallOf nextRound
 
-abbrev pub others : List ℕ
-others = entry 1 5 40 ∷ entry 2 5 60 ∷ []
+-- the log without it, and with it
+abbrev pub withoutIt : List ℕ
+withoutIt = entry 1 5 40 ∷ entry 2 5 60 ∷ []
+
+abbrev pub withIt : List ℕ
+withIt = entry 1 5 40 ∷ entry 2 5 60 ∷ entry 10 5 1 ∷ []
 
 pub record NextRoundRuns : Type 0 where
   -- node 2 has not sent it by round 2, and sends it in round 3
   pub rule : breaks nextRound ≡ true ∷ []
   pub not-yet : hasSent hall 2 2 0 batch ≡ false
   pub next : hasSent hall 3 2 0 batch ≡ true
-  pub node1 : Makes hall 1 others
-  pub node2 : Makes hall 2 (entry 1 5 40 ∷ entry 2 5 60 ∷ entry 10 5 1 ∷ [])
-  pub node3 : Makes hall 3 others
-  pub node4 : Makes hall 4 others
+  pub node1 : Makes hall 1 withoutIt
+  pub node2 : Makes hall 2 withIt
+  pub node3 : Makes hall 3 withoutIt
+  pub node4 : Makes hall 4 withoutIt

@@ -1,5 +1,5 @@
 -- A run as a schedule tells it: "`n`, `f`, `faulty` [..], n lines `tray` [..], lines `send` (round, from, to, message [..])". "Old logs are empty."
-use Prim.Native.Nat.{ℕ, _+_, _*_, _^_}
+use Prim.Native.Nat.{ℕ, _+_, _^_}
 use mathlib.Core.Path.{_≡_}
 use mathlib.Core.Bool.{Bool, cond, _&&_}
 use mathlib.Core.List.{List, [], _∷_, map}
@@ -13,10 +13,6 @@ use Rattle.tray.specs.Trays.{trayOf}
 use Rattle.agreement.specs.Hall.{Hall, closes, logOf}
 use Rattle.agreement.specs.Rule.{breaksRule}
 use Rattle.agreement.specs.Carried.{carriedHall}
-
--- meter.interval.watthours
-abbrev pub entry : (meter interval wattHours : ℕ) → ℕ
-entry meter interval wattHours = meter * 2 ^ 48 + interval * 2 ^ 32 + wattHours
 
 -- the mask of these nodes
 abbrev pub mask : List ℕ → ℕ

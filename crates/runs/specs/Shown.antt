@@ -6,10 +6,11 @@ use mathlib.Core.Bool.{true, false}
 use mathlib.Core.List.{List, [], _∷_}
 use Rattle.rules.specs.Vote.{Batch}
 use Rattle.node.specs.State.{keptFor}
+use Rattle.log.specs.Fields.{entry}
 use Rattle.agreement.specs.Hall.{Hall, nodeAfter}
 use Rattle.agreement.specs.Granted.{Granted}
 use Rattle.agreement.specs.Rule.{hasSent}
-use Rattle.runs.specs.Schedule.{entry, vote, sending, Schedule, hallOf, breaks, Makes}
+use Rattle.runs.specs.Schedule.{vote, sending, Schedule, hallOf, breaks, Makes}
 
 -- the two batches of primary 0, and the one of primary 1
 abbrev pub early : Batch

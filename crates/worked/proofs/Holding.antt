@@ -26,7 +26,7 @@ use Rattle.closing.proofs.Determined.{close-determined}
 use Rattle.signing.specs.Count.{SignersAre}
 use Rattle.signing.specs.declared.SigningCount.{SigningCount}
 use Rattle.signing.proofs.Determined.{signers-determined}
-use Rattle.worked.specs.Test.{Test, reads, hears, makes, opens, steps, closes, counts, Holds}
+use Rattle.worked.specs.Test.{reads, hears, makes, opens, steps, closes, counts, Holds}
 
 pub reading : {n : ℕ} {part : List ℕ} {answer : Record} {batch : List ℕ} → ReadRecord n part answer → BatchBytes n part batch → Holds (reads n part answer batch)
 reading {n} {part} {answer} {batch} p q =

@@ -1,5 +1,5 @@
--- What the tests hand over and expect: entries, nodes and answers by their parts, inboxes of three.
-use Prim.Native.Nat.{ℕ, zero, suc, _+_, _*_, _^_}
+-- What the tests hand over and expect: nodes and answers by their parts, inboxes of three.
+use Prim.Native.Nat.{ℕ, zero, suc}
 use mathlib.Core.List.{List, [], _∷_, _++_}
 use Rattle.rules.specs.Vote.{Batch}
 use Rattle.rules.specs.Refusals.{done}
@@ -8,11 +8,8 @@ use Rattle.node.specs.declared.Made.{Made}
 use Rattle.node.specs.declared.Node.{Node}
 use Rattle.node.specs.declared.Opened.{Opened}
 use Rattle.step.specs.declared.Stepped.{Stepped}
+use Rattle.log.specs.Fields.{entry}
 use Rattle.closing.specs.declared.Closed.{Closed}
-
--- meter.interval.watthours
-abbrev pub entry : (meter interval wattHours : ℕ) → ℕ
-entry meter interval wattHours = meter * 2 ^ 48 + interval * 2 ^ 32 + wattHours
 
 -- ---- answers of calls that are done
 
