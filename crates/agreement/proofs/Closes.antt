@@ -1,4 +1,4 @@
--- What a correct node's close answers is what the rules say of its decisions: it is in phase f + 2 with a well-formed old log and room enough, so that the log
+-- What the close of a node that nothing hinders answers is what the rules say of its decisions: it is in phase f + 2 with a well-formed old log and room enough, so that the log
 -- is made, or refused by 8 alone.
 use Prim.Native.Nat.{ℕ, suc, _+_, _≤_, _<_}
 use mathlib.Core.Path.{_≡_, refl, sym, ap, _∙_}
@@ -16,7 +16,7 @@ use Rattle.rules.specs.Log.{decision, decisions, joined, made, full, closed}
 use Rattle.rules.specs.Run.{kept, newLog}
 use Rattle.rules.proofs.Inbox.{gather-same}
 use Rattle.rules.proofs.Sent.{kept-few}
-use Rattle.rules.proofs.Sizes.{sized-most}
+use Rattle.rules.proofs.Sizes.{sizes-told}
 use Rattle.tray.specs.Trays.{entriesOf, soundTray}
 use Rattle.node.specs.State.{keptFor, soundNode}
 use Rattle.node.specs.declared.Node.{Node}
@@ -24,8 +24,8 @@ use Rattle.node.proofs.Lists.{batch-entries}
 use Rattle.node.proofs.Sound.{of-kept}
 use Rattle.closing.specs.Close.{decisionsOf, newLogOf, closeNumber}
 use Rattle.agreement.specs.Hall.{Hall, nodeAfter, closes, logOf}
-use Rattle.agreement.specs.Granted.{Correct, Granted, Room}
-use Rattle.agreement.proofs.Follows.{overVotes, ruled, stays-sound, follows}
+use Rattle.agreement.specs.Granted.{Room}
+use Rattle.agreement.proofs.Follows.{overVotes, ruled, Unhindered, stays-sound, follows}
 
 -- ---- the close of a node whose rounds are over
 
@@ -44,7 +44,7 @@ decisions-same : (n me : ℕ) (own : Batch) (kept other : ℕ → List Batch) �
 unfolding decisions
 decisions-same n me own kept other h = gather-same _ _ n (λ p l. ap (λ (bs : List Batch). decision me own p bs ∷ []) (h p l))
 
-module _ (hall : Hall) (G : Granted hall) (i : ℕ) (ci : Correct hall i) where
+module _ (hall : Hall) (i : ℕ) (U : Unhindered hall i) (well-formed : isLog (hall .old) ≡ true) where
   abbrev last : Node
   last = nodeAfter hall i (hall .f + 1)
 
@@ -52,7 +52,7 @@ module _ (hall : Hall) (G : Granted hall) (i : ℕ) (ci : Correct hall i) where
   decided = decisions (hall .n) i (entriesOf (hall .tray i)) (kept (overVotes hall) (hall .f + 1) i)
 
   its-node : last ≡ ruled hall i (hall .f + 1)
-  its-node = follows hall G i ci (hall .f + 1) (le-refl (hall .f + 1))
+  its-node = follows hall i U (hall .f + 1) (le-refl (hall .f + 1))
 
   rounds-over : last .f + 2 ≤ last .phase
   rounds-over =
@@ -70,11 +70,11 @@ module _ (hall : Hall) (G : Granted hall) (i : ℕ) (ci : Correct hall i) where
       ∙ ap (joined (hall .old))
       (decisions-same (hall .n) i own (keptFor s) (kept (overVotes hall) (hall .f + 1) i)
       (λ p l.
-      of-kept (hall .n) (hall .f) i (suc (hall .f + 1)) own (kept (overVotes hall) (hall .f + 1) i) p (le-trans l (sized-most (hall .n) (G .nodes)))
+      of-kept (hall .n) (hall .f) i (suc (hall .f + 1)) own (kept (overVotes hall) (hall .f + 1) i) p (le-trans l (sizes-told (hall .n) (hall .f) i (U .numbers) .most))
       (kept-few (overVotes hall) (hall .f + 1) i p)))
 
   sound-last : soundNode last ≡ true
-  sound-last = stays-sound hall G i ci (hall .f + 1)
+  sound-last = stays-sound hall i U (hall .f + 1)
 
   -- it answers by a log, or by 8
   pub made-closes : (log : List ℕ) → newLog (overVotes hall) i ≡ made log → (closes hall i ≡ done) × (logOf hall i ≡ log)
@@ -84,7 +84,7 @@ module _ (hall : Hall) (G : Granted hall) (i : ℕ) (ci : Correct hall i) where
       go : (b : Bool) → fits (logOf hall i) ≡ b → (closes hall i ≡ done) × (logOf hall i ≡ log)
       go true e =
           let g = rw (sym log-ruled, e) at m in
-          (makes-log last (hall .old) (hall .output i) sound-last rounds-over (G .well-formed) e (G .room i ci .closing e), cc)
+          (makes-log last (hall .old) (hall .output i) sound-last rounds-over well-formed e (U .room .closing e), cc)
       go false e = let g = rw (sym log-ruled, e) at m in let z : _≡_ {A = ℕ} 0 1 = cc in absurd (omega arith)
 
   pub full-closes : newLog (overVotes hall) i ≡ full → closes hall i ≡ 8
@@ -93,7 +93,7 @@ module _ (hall : Hall) (G : Granted hall) (i : ℕ) (ci : Correct hall i) where
     where
       go : (b : Bool) → fits (logOf hall i) ≡ b → closes hall i ≡ 8
       go true e = let g = rw (sym log-ruled, e) at m in let z : _≡_ {A = ℕ} 0 1 = cc in absurd (omega arith)
-      go false e = is-full last (hall .old) (hall .output i) sound-last rounds-over (G .well-formed) e
+      go false e = is-full last (hall .old) (hall .output i) sound-last rounds-over well-formed e
 
   -- one that answers by a log makes it by the rules
   pub closes-made : closes hall i ≡ done → newLog (overVotes hall) i ≡ made (logOf hall i)
@@ -102,4 +102,4 @@ module _ (hall : Hall) (G : Granted hall) (i : ℕ) (ci : Correct hall i) where
     where
       go : (b : Bool) → fits (logOf hall i) ≡ b → newLog (overVotes hall) i ≡ made (logOf hall i)
       go true e = rw (sym log-ruled, e)
-      go false e = absurd (let z = is-full last (hall .old) (hall .output i) sound-last rounds-over (G .well-formed) e in omega arith)
+      go false e = absurd (let z = is-full last (hall .old) (hall .output i) sound-last rounds-over well-formed e in omega arith)

@@ -23,8 +23,8 @@ use Rattle.signing.specs.Count.{signersNumber}
 use Rattle.agreement.specs.Hall.{Hall, closes, logOf}
 use Rattle.agreement.specs.Granted.{Correct, Granted, Marked, Counting, Signing}
 use Rattle.agreement.specs.Claim.{OneLog, Agreed, Finds, Signed, Demand3}
-use Rattle.agreement.proofs.Follows.{overVotes, sizes-hold}
-use Rattle.agreement.proofs.Granting.{granted}
+use Rattle.agreement.proofs.Follows.{overVotes}
+use Rattle.agreement.proofs.Granting.{unhindered, granted}
 use Rattle.agreement.proofs.Closes.{made-closes, full-closes, closes-made}
 
 -- ---- one log, or all are told that it is full
@@ -40,14 +40,14 @@ module _ (hall : Hall) (G : Granted hall) where
   same-answer (inl (log, one)) = inl (
     log,
     record {
-      makes = λ i ci. made-closes hall G i ci log (one .makes i (over ci)) .0;
-      same = λ i ci. made-closes hall G i ci log (one .makes i (over ci)) .1;
+      makes = λ i ci. made-closes hall i (unhindered hall G i ci) (G .well-formed) log (one .makes i (over ci)) .0;
+      same = λ i ci. made-closes hall i (unhindered hall G i ci) (G .well-formed) log (one .makes i (over ci)) .1;
       well-formed = one .well-formed;
       old-in = one .old-in;
       opened-in = λ c e cc. one .opened-in c e (over cc);
     },
   )
-  same-answer (inr all-full) = inr (λ i ci. full-closes hall G i ci (all-full i (over ci)))
+  same-answer (inr all-full) = inr (λ i ci. full-closes hall i (unhindered hall G i ci) (G .well-formed) (all-full i (over ci)))
 
   pub agreed : Agreed hall
   agreed = same-answer (one-log (overVotes hall) (granted hall G))
@@ -56,10 +56,10 @@ module _ (hall : Hall) (G : Granted hall) where
 
   module _ (mark : ℕ → Mark) where
     marked : (j : ℕ) (m : Mark) → Correct hall j → Marked hall mark j m → MarkedOver (overVotes hall) mark j m
-    marked j m cj t = record { log = logOf hall j; makes = closes-made hall G j cj (t .makes); its = t .its }
+    marked j m cj t = record { log = logOf hall j; makes = closes-made hall j (unhindered hall G j cj) (G .well-formed) (t .makes); its = t .its }
 
     back-marked : (j : ℕ) (m : Mark) → Correct hall j → MarkedOver (overVotes hall) mark j m → Marked hall mark j m
-    back-marked j m cj t = record { makes = made-closes hall G j cj (t .log) (t .makes) .0; its = t .its }
+    back-marked j m cj t = record { makes = made-closes hall j (unhindered hall G j cj) (G .well-formed) (t .log) (t .makes) .0; its = t .its }
 
     counting : (k : ℕ) (m : Mark) (slots : List ℕ) → Counting hall mark k m slots → CountingOver (overVotes hall) mark k m (slotOf slots)
     counting k m slots c = record {
@@ -71,10 +71,10 @@ module _ (hall : Hall) (G : Granted hall) where
     signing slots S = record {
       majority = G .above;
       alike = λ i j log ci cj mi mj.
-          let a = made-closes hall G i (back ci) log mi in
-          let b = made-closes hall G j (back cj) log mj in
+          let a = made-closes hall i (unhindered hall G i (back ci)) (G .well-formed) log mi in
+          let b = made-closes hall j (unhindered hall G j (back cj)) (G .well-formed) log mj in
           S .alike i j (back ci) (back cj) (a .0) (b .0) (a .1 ∙ sym (b .1));
-      reaches = λ i j log ci cj ne mj. S .reaches i j (back ci) (back cj) ne (made-closes hall G j (back cj) log mj .0);
+      reaches = λ i j log ci cj ne mj. S .reaches i j (back ci) (back cj) ne (made-closes hall j (unhindered hall G j (back cj)) (G .well-formed) log mj .0);
     }
 
     pub signed : (slots : ℕ → List ℕ) → Signing hall mark slots → Signed hall mark slots
@@ -83,8 +83,8 @@ module _ (hall : Hall) (G : Granted hall) where
         let over-signed = over-votes (overVotes hall) (granted hall G) .1 mark (λ i. slotOf (slots i)) (signing slots S) in
         record {
           finds = λ i ci d.
-              let e = over-signed .finds i (logOf hall i) (over ci) (closes-made hall G i ci d) in
-              record { counts = simp (sizes-hold hall G i ci, S .cut i ci, e); enough = leb-true _ _ e };
+              let e = over-signed .finds i (logOf hall i) (over ci) (closes-made hall i (unhindered hall G i ci) (G .well-formed) d) in
+              record { counts = simp (unhindered hall G i ci .numbers, S .cut i ci, e); enough = leb-true _ _ e };
           no-other = λ k m handed c d i ci.
               let a = row-passed 0 (sizes (hall .n) (hall .f) k) _ d in
               let b = row-passed 3 (areSlots (hall .n) handed) _ (a .1) in

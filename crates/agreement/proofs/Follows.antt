@@ -1,5 +1,5 @@
--- Each correct node follows the rules over votes: no call refuses it, so after r rounds it is the node of its own batch and of what the rules keep of the
--- votes that its inboxes read as.
+-- A node that nothing hinders follows the rules over votes: no call refuses it, so after r rounds it is the node of its own batch and of what the rules keep
+-- of the votes that its inboxes read as.
 use Prim.Native.Nat.{ℕ, zero, suc, _+_, _≤_, _<_}
 use mathlib.Core.Path.{_≡_, refl, sym, ap, subst, _∙_}
 use mathlib.Core.Bool.{true}
@@ -7,7 +7,7 @@ use mathlib.Core.List.{List, [], _∷_}
 use native.Mathlib.Nat.{le-trans, le-suc}
 use native.Mathlib.Numerals.{add-one}
 use native.Mathlib.Omega.{arith}
-use borrow.Author.Tests.{le-leb, lt-ltb}
+use borrow.Author.Tests.{le-leb}
 use lib.Dec.{leb}
 use lib.ListN.{length}
 use Rattle.rules.specs.Sizes.{nodesMost, sizes}
@@ -17,7 +17,7 @@ use Rattle.rules.specs.Step.{gather, keptMost, keptAfter}
 use Rattle.rules.specs.Run.{Run, votesAt, kept}
 use Rattle.rules.proofs.Inbox.{gather-same}
 use Rattle.rules.proofs.Sent.{kept-few}
-use Rattle.rules.proofs.Sizes.{majority}
+use Rattle.entries.specs.Bytes.{AreBytes, AreEntries}
 use Rattle.wire.specs.Record.{recordBytes}
 use Rattle.wire.specs.Message.{messageBytes}
 use Rattle.wire.specs.Inbox.{wellCut}
@@ -35,7 +35,7 @@ use Rattle.step.specs.Course.{made, after}
 use Rattle.step.proofs.Steps.{in-rounds}
 use Rattle.step.proofs.Courses.{made-is-fresh, made-sound, course-sound}
 use Rattle.agreement.specs.Hall.{Hall, nodeAfter}
-use Rattle.agreement.specs.Granted.{Correct, Granted, Room, Round}
+use Rattle.agreement.specs.Granted.{Room, Round}
 
 -- ---- calls that are not refused
 
@@ -66,22 +66,28 @@ overVotes hall = record {
 abbrev pub ruled : (hall : Hall) (i r : ℕ) → Node
 ruled hall i r = nodeOf (hall .n) (hall .f) i (suc r) (entriesOf (hall .tray i)) (kept (overVotes hall) r i)
 
-module _ (hall : Hall) (G : Granted hall) (i : ℕ) (ci : Correct hall i) where
-  pub sizes-hold : sizes (hall .n) (hall .f) i ≡ true
-  sizes-hold = majority (hall .n) (hall .f) i (G .nodes) (G .above) ∙ lt-ltb i (hall .n) (ci .node)
+-- what node i's course asks: nothing of it is a matter of other nodes' votes
+pub record Unhindered (hall : Hall) (i : ℕ) : Type 0 where
+  pub numbers : sizes (hall .n) (hall .f) i ≡ true
+  pub tray : soundTray (hall .tray i) ≡ true
+  pub entries : AreEntries (entriesOf (hall .tray i))
+  pub room : Room hall i
+  pub cut : (r : ℕ) → Round hall r → wellCut (hall .n) (hall .inbox i r) ≡ true
+  pub bytes : (r : ℕ) → Round hall r → AreBytes (hall .inbox i r)
 
+module _ (hall : Hall) (i : ℕ) (U : Unhindered hall i) where
   pub stays-sound : (r : ℕ) → soundNode (nodeAfter hall i r) ≡ true
-  stays-sound r = course-sound (hall .n) (hall .f) i (hall .tray i) (hall .inbox i) (hall .room i) sizes-hold r
+  stays-sound r = course-sound (hall .n) (hall .f) i (hall .tray i) (hall .inbox i) (hall .room i) (U .numbers) r
 
   abbrev fresh-i : made (hall .n) (hall .f) i ≡ fresh (hall .n) (hall .f) i
-  fresh-i = made-is-fresh (hall .n) (hall .f) i (hall .tray i) (hall .inbox i) (hall .room i) sizes-hold
+  fresh-i = made-is-fresh (hall .n) (hall .f) i (hall .tray i) (hall .inbox i) (hall .room i) (U .numbers)
 
   pub opens : openNumber (made (hall .n) (hall .f) i) (hall .tray i) (hall .room i 1) ≡ done
   opens =
       ap (λ (s : Node). openNumber s (hall .tray i) (hall .room i 1)) fresh-i
       ∙ open-goes (fresh (hall .n) (hall .f) i) (hall .tray i) (hall .room i 1)
-      (subst (λ (s : Node). soundNode s ≡ true) fresh-i (made-sound (hall .n) (hall .f) i (hall .tray i) (hall .inbox i) (hall .room i) sizes-hold))
-      (G .trays i ci) refl (G .room i ci .opens)
+      (subst (λ (s : Node). soundNode s ≡ true) fresh-i (made-sound (hall .n) (hall .f) i (hall .tray i) (hall .inbox i) (hall .room i) (U .numbers)))
+      (U .tray) refl (U .room .opens)
 
   -- what it keeps by a step is what the rules keep
   kept-ruled : (r p : ℕ) → p < nodesMost → keptBy (ruled hall i r) (hall .inbox i (suc r)) p ≡ kept (overVotes hall) (suc r) i p
@@ -103,7 +109,7 @@ module _ (hall : Hall) (G : Granted hall) (i : ℕ) (ci : Correct hall i) where
   goes r b e =
       step-goes (nodeAfter hall i r) (hall .inbox i (suc r)) (hall .room i (suc (suc r))) (stays-sound r)
       (ap inRounds e ∙ in-rounds (ruled hall i r) (b .first) (b .last))
-      (ap (λ (s : Node). wellCut (s .n) (hall .inbox i (suc r))) e ∙ G .cut i (suc r) ci b) (G .room i ci .steps r b)
+      (ap (λ (s : Node). wellCut (s .n) (hall .inbox i (suc r))) e ∙ U .cut (suc r) b) (U .room .steps r b)
 
   pub follows : (r : ℕ) → r ≤ hall .f + 1 → nodeAfter hall i r ≡ ruled hall i r
   unfolding after kept

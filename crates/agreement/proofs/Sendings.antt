@@ -1,4 +1,4 @@
--- What a correct node sends reads back as the votes that the rules send: the opening is one vote that can be said, and what a step writes reads back.
+-- What a node that nothing hinders sends reads back as the votes that the rules send: the opening is one vote that can be said, and what a step writes reads back.
 use Prim.Native.Nat.{ℕ, zero, suc, _+_, _≤_, _<_}
 use mathlib.Core.Path.{_≡_, refl, sym, ap, subst, _∙_}
 use mathlib.Core.Logic.{inl, ⊎-elim}
@@ -17,7 +17,7 @@ use Rattle.rules.specs.Step.{gather, keptMost, newly, passesOn}
 use Rattle.rules.specs.Run.{Run, votesAt, kept, sent}
 use Rattle.rules.proofs.Inbox.{gather-same}
 use Rattle.rules.proofs.Sent.{kept-few}
-use Rattle.rules.proofs.Sizes.{sized-most}
+use Rattle.rules.proofs.Sizes.{Sized, sizes-told}
 use Rattle.wire.specs.Sizes.{recordMost, messageMost}
 use Rattle.wire.specs.Record.{recordBytes}
 use Rattle.wire.specs.Message.{votesOf, messageBytes}
@@ -36,8 +36,8 @@ use Rattle.step.specs.Course.{made, outbox}
 use Rattle.step.proofs.Courses.{made-is-fresh}
 use Rattle.step.proofs.ReadsBack.{outbox-reads-back}
 use Rattle.agreement.specs.Hall.{Hall, nodeAfter, sends}
-use Rattle.agreement.specs.Granted.{Correct, Granted, Round}
-use Rattle.agreement.proofs.Follows.{overVotes, ruled, sizes-hold, stays-sound, opens, follows, steps}
+use Rattle.agreement.specs.Granted.{Round}
+use Rattle.agreement.proofs.Follows.{overVotes, ruled, Unhindered, stays-sound, opens, follows, steps}
 
 -- what is passed on depends on what was kept for the nodes alone
 passes-same : (n f me r : ℕ) (kept other : ℕ → List Batch) (votes : List Vote) → ((p : ℕ) → p < n → kept p ≡ other p)
@@ -47,9 +47,12 @@ passes-same n f me r kept other votes h =
     ap (λ (vs : List Vote). cond (eqb r (f + 1)) [] vs)
     (gather-same _ _ n (λ p l. ap (λ (bs : List Batch). map (passedOn me) (newly keptMost r p bs votes)) (h p l)))
 
-module _ (hall : Hall) (G : Granted hall) (i : ℕ) (ci : Correct hall i) where
+module _ (hall : Hall) (i : ℕ) (U : Unhindered hall i) where
   abbrev n : ℕ
   n = hall .n
+
+  nodes : Sized n (hall .f) i
+  nodes = sizes-told n (hall .f) i (U .numbers)
 
   abbrev own : Vote
   own = opened i (entriesOf (hall .tray i))
@@ -57,23 +60,23 @@ module _ (hall : Hall) (G : Granted hall) (i : ℕ) (ci : Correct hall i) where
   -- ---- round 1
 
   fresh-sound : soundNode (fresh n (hall .f) i) ≡ true
-  fresh-sound = fresh-is-sound n (hall .f) i (sizes-hold hall G i ci)
+  fresh-sound = fresh-is-sound n (hall .f) i (U .numbers)
 
   opening-sent : sends hall i 1 ≡ messageBytes (own ∷ [])
   unfolding outbox messageBytes
   opening-sent =
-      ap (λ (k : ℕ). ifDone k (recordBytes (openingVote (made n (hall .f) i) (hall .tray i))) []) (opens hall G i ci)
+      ap (λ (k : ℕ). ifDone k (recordBytes (openingVote (made n (hall .f) i) (hall .tray i))) []) (opens hall i U)
       ∙ ap (λ (s : Node). recordBytes (openingVote s (hall .tray i)))
-      (made-is-fresh n (hall .f) i (hall .tray i) (hall .inbox i) (hall .room i) (sizes-hold hall G i ci))
+      (made-is-fresh n (hall .f) i (hall .tray i) (hall .inbox i) (hall .room i) (U .numbers))
       ∙ sym (append-nil (recordBytes own))
 
   opening-reads : votesOf n (messageBytes (own ∷ [])) ≡ some (own ∷ [])
   unfolding messageBytes opened
   opening-reads =
-      let short : length (recordBytes own) ≤ recordMost = opening-size (fresh n (hall .f) i) (hall .tray i) (G .trays i ci) in
+      let short : length (recordBytes own) ≤ recordMost = opening-size (fresh n (hall .f) i) (hall .tray i) (U .tray) in
       let bytes : length (messageBytes (own ∷ [])) ≡ length (recordBytes own) = ap length (append-nil (recordBytes own)) in
-      let says : Sayable n own = record { test = opening-sayable (fresh n (hall .f) i) (hall .tray i) [] fresh-sound (G .trays i ci); entries = G .entries i ci } in
-      round-trips n (G .nodes) .messages .read-back (own ∷ []) (λ v m. ⊎-elim (λ e. subst (Sayable n) (sym e) says) (λ b. absurd b) m)
+      let says : Sayable n own = record { test = opening-sayable (fresh n (hall .f) i) (hall .tray i) [] fresh-sound (U .tray); entries = U .entries } in
+      round-trips n (nodes .nodes) .messages .read-back (own ∷ []) (λ v m. ⊎-elim (λ e. subst (Sayable n) (sym e) says) (λ b. absurd b) m)
       (omega (arith, short, bytes))
 
   -- ---- after it
@@ -81,23 +84,23 @@ module _ (hall : Hall) (G : Granted hall) (i : ℕ) (ci : Correct hall i) where
   module _ (r : ℕ) (b : Round hall (suc r)) where
     passed-sent : sends hall i (suc (suc r)) ≡ messageBytes (passedBy (nodeAfter hall i r) (hall .inbox i (suc r)))
     unfolding outbox
-    passed-sent = ap (λ (k : ℕ). ifDone k (messageBytes (passedBy (nodeAfter hall i r) (hall .inbox i (suc r)))) []) (steps hall G i ci r b)
+    passed-sent = ap (λ (k : ℕ). ifDone k (messageBytes (passedBy (nodeAfter hall i r) (hall .inbox i (suc r)))) []) (steps hall i U r b)
 
     passed-ruled : passedBy (nodeAfter hall i r) (hall .inbox i (suc r)) ≡ sent (overVotes hall) (suc (suc r)) i
     unfolding sent
     passed-ruled =
-        ap (λ (s : Node). passedBy s (hall .inbox i (suc r))) (follows hall G i ci r (le-trans (le-suc r) (b .last)))
+        ap (λ (s : Node). passedBy s (hall .inbox i (suc r))) (follows hall i U r (le-trans (le-suc r) (b .last)))
         ∙ passes-same n (hall .f) i (suc r) (keptFor (ruled hall i r)) (kept (overVotes hall) r i) (votesAt (overVotes hall) (suc r) i)
-        (λ p l. of-kept n (hall .f) i (suc r) (entriesOf (hall .tray i)) (kept (overVotes hall) r i) p (le-trans l (sized-most n (G .nodes)))
+        (λ p l. of-kept n (hall .f) i (suc r) (entriesOf (hall .tray i)) (kept (overVotes hall) r i) p (le-trans l (nodes .most))
         (kept-few (overVotes hall) r i p))
 
     passed-reads : votesOf n (sends hall i (suc (suc r))) ≡ some (sent (overVotes hall) (suc (suc r)) i)
     passed-reads =
         let s = nodeAfter hall i r in
-        let e : s .n ≡ n = ap (λ (x : Node). x .n) (follows hall G i ci r (le-trans (le-suc r) (b .last))) in
+        let e : s .n ≡ n = ap (λ (x : Node). x .n) (follows hall i U r (le-trans (le-suc r) (b .last))) in
         ap (votesOf n) passed-sent
         ∙ subst (λ (m : ℕ). votesOf m (messageBytes (passedBy s (hall .inbox i (suc r)))) ≡ some (passedBy s (hall .inbox i (suc r)))) e
-        (outbox-reads-back s (hall .inbox i (suc r)) (stays-sound hall G i ci r) (G .bytes i (suc r) ci b))
+        (outbox-reads-back s (hall .inbox i (suc r)) (stays-sound hall i U r) (U .bytes (suc r) b))
         ∙ ap (λ (vs : List Vote). some vs) passed-ruled
 
   pub sends-read : (r : ℕ) → Round hall r → votesOf n (sends hall i r) ≡ some (sent (overVotes hall) r i)

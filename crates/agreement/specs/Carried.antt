@@ -12,8 +12,12 @@ use Rattle.tray.specs.declared.Tray.{Tray}
 use Rattle.step.specs.Course.{outbox}
 use Rattle.agreement.specs.Hall.{Hall}
 
+-- room for a whole message in every round
+abbrev pub roomy : ℕ → ℕ
+roomy r = messageMost
+
 -- given r j i: the message of faulty node j to node i in round r
-module _ (n f : ℕ) (faulty : ℕ → Bool) (tray : ℕ → Tray) (given : ℕ → ℕ → ℕ → List ℕ) (old : List ℕ) where
+module _ (n : ℕ) (faulty : ℕ → Bool) (given : ℕ → ℕ → ℕ → List ℕ) where
   -- the message of node j to node i in round r, of which node i's own is silence; sent j: what correct node j sends
   abbrev pub message : (r i : ℕ) (sent : ℕ → List ℕ) (j : ℕ) → List ℕ
   message r i sent j = cond (eqb j i) [] (cond (faulty j) (given r j i) (sent j))
@@ -22,23 +26,20 @@ module _ (n f : ℕ) (faulty : ℕ → Bool) (tray : ℕ → Tray) (given : ℕ 
   abbrev pub carried : (r i : ℕ) (sent : ℕ → List ℕ) → List ℕ
   carried r i sent = inboxBytes (gather (λ (j : ℕ). message r i sent j ∷ []) n)
 
-  -- room for a whole message
-  abbrev pub roomy : ℕ → ℕ
-  roomy r = messageMost
+  module _ (f : ℕ) (tray : ℕ → Tray) where
+    -- what node i is handed in round q, as far as round r is played
+    unfoldable pub handed : (r i q : ℕ) → List ℕ
+    handed zero i q = []
+    handed (suc r) i q = cond (leb q r) (handed r i q) (carried (suc r) i (λ (j : ℕ). outbox n f j (tray j) (handed r j) roomy (suc r)))
 
-  -- what node i is handed in round q, as far as round r is played
-  unfoldable pub handed : (r i q : ℕ) → List ℕ
-  handed zero i q = []
-  handed (suc r) i q = cond (leb q r) (handed r i q) (carried (suc r) i (λ (j : ℕ). outbox n f j (tray j) (handed r j) roomy (suc r)))
-
-  abbrev pub carriedHall : Hall
-  carriedHall = record {
-    n = n;
-    f = f;
-    faulty = faulty;
-    tray = tray;
-    inbox = λ i r. handed r i r;
-    room = λ i. roomy;
-    old = old;
-    output = λ i. logMost;
-  }
+abbrev pub carriedHall : (n f : ℕ) (faulty : ℕ → Bool) (tray : ℕ → Tray) (given : ℕ → ℕ → ℕ → List ℕ) (old : List ℕ) → Hall
+carriedHall n f faulty tray given old = record {
+  n = n;
+  f = f;
+  faulty = faulty;
+  tray = tray;
+  inbox = λ i r. handed n faulty given f tray r i r;
+  room = λ i. roomy;
+  old = old;
+  output = λ i. logMost;
+}

@@ -17,8 +17,8 @@ records n nodes =
     let most = sized-most n nodes in
     record {
       read-back = λ v rest say. reads-back n most v say rest;
-      are-bytes = record-bytes n most;
-      at-most = record-most n most;
+      are-bytes = λ v say. record-bytes n most v (say .test);
+      at-most = λ v say. record-most n most v (say .test);
       written-again = record-again n;
       vote-sayable = vote-sayable n;
       decided = decided n nodes;

@@ -39,6 +39,11 @@ entry-bytes x s t (suc (suc (suc (suc (suc (suc zero)))))) = omega arith
 entry-bytes x s t (suc (suc (suc (suc (suc (suc (suc zero))))))) = omega arith
 entry-bytes x s t (suc (suc (suc (suc (suc (suc (suc (suc i)))))))) = t i
 
+pub append-bytes : (s t : List ℕ) → AreBytes s → AreBytes t → AreBytes (s ++ t)
+append-bytes [] t a b i = b i
+append-bytes (x ∷ s) t a b zero = a 0
+append-bytes (x ∷ s) t a b (suc i) = append-bytes s t (λ j. a (suc j)) b i
+
 pub entries-bytes : (es : List ℕ) → AreBytes (entriesBytes es)
 unfolding entriesBytes
 entries-bytes [] = λ i. lit< tt

@@ -9,7 +9,7 @@ use mathlib.Core.Option.{Option, none, some}
 use native.Mathlib.Nat.{add-assoc, add-zero}
 use native.Mathlib.Omega.{arith}
 use borrow.Author.Tests.{lt-ltb, ltb-true, eq-eqb, ne-eqb, eqb-true}
-use lib.Dec.{eqb, ltb}
+use lib.Dec.{eqb, ltb, lit<}
 use lib.ListN.{length, getD, take, drop, length-append, length-drop}
 use lib.Seq.{getD-append-add, drop-append-add, take-append-seam, drop-drop, getD-drop, take-add, take-all, length-take-le}
 use Rattle.laws.specs.Masks.{bit, asBit}
@@ -23,7 +23,7 @@ use Rattle.wire.specs.Sizes.{lengthSize}
 use Rattle.wire.specs.Message.{votesOf, silent}
 use Rattle.wire.specs.Inbox.{lengthAt, endAt, placeOf, messageOf, wellCut, inboxBytes, isUnreadable, unreadableSenders}
 use Rattle.roundtrip.specs.Inboxes.{messages, Fit, Inboxes}
-use Rattle.roundtrip.proofs.Entries.{drop-bytes, take-bytes}
+use Rattle.roundtrip.proofs.Entries.{append-bytes, drop-bytes, take-bytes}
 
 -- no message is too long for its two length bytes
 abbrev Short : List (List ℕ) → Type 0
@@ -98,7 +98,14 @@ inbox-append (m ∷ ms) ns =
     ap (λ (t : List ℕ). length m % 256 ∷ length m / 256 % 256 ∷ t)
     (ap (λ (t : List ℕ). m ++ t) (inbox-append ms ns) ∙ sym (append-assoc m (inboxBytes ms) (inboxBytes ns)))
 
--- the messages of an inbox are bytes
+-- an inbox of messages in bytes is bytes, and the messages of an inbox are
+pub inbox-bytes : (ms : List (List ℕ)) → ((m : List ℕ) → In m ms → AreBytes m) → AreBytes (inboxBytes ms)
+unfolding inboxBytes
+inbox-bytes [] h i = lit< tt
+inbox-bytes (m ∷ ms) h zero = omega arith
+inbox-bytes (m ∷ ms) h (suc zero) = omega arith
+inbox-bytes (m ∷ ms) h (suc (suc i)) = append-bytes m (inboxBytes ms) (h m (inl refl)) (inbox-bytes ms (λ x k. h x (inr k))) i
+
 pub message-bytes : (s : List ℕ) (j : ℕ) → AreBytes s → AreBytes (messageOf s j)
 unfolding messageOf
 message-bytes s j t =

@@ -7,9 +7,10 @@ use mathlib.Core.List.{List, [], _∷_, _++_, append-assoc, append-nil}
 use mathlib.Core.Option.{Option, none, some}
 use native.Mathlib.Omega.{arith}
 use borrow.Author.Tests.{leb-true, leb-false}
-use lib.Dec.{leb}
+use lib.Dec.{leb, lit<}
 use lib.ListN.{length, drop, length-drop, take-append-drop}
 use lib.Seq.{drop-append-seam}
+use Rattle.laws.specs.Members.{In}
 use Rattle.laws.proofs.Tests.{clash}
 use Rattle.rules.specs.Sizes.{nodesMost}
 use Rattle.rules.specs.Vote.{Vote}
@@ -17,11 +18,12 @@ use Rattle.entries.specs.Bytes.{AreBytes}
 use Rattle.wire.specs.Sizes.{messageMost}
 use Rattle.wire.specs.Record.{sizeOf, voteOf, unreadable, recordBytes}
 use Rattle.wire.specs.Message.{before, votesAfter, votesOf, silent, messageBytes}
+use Rattle.wire.specs.Writer.{sayable}
 use Rattle.wire.proofs.Messages.{one-more, stuck, none-left, short-enough, too-long}
 use Rattle.roundtrip.specs.Records.{Sayable}
 use Rattle.roundtrip.specs.Messages.{AllSayable, BytesOf, OneUnreadable, Messages}
-use Rattle.roundtrip.proofs.Entries.{drop-bytes}
-use Rattle.roundtrip.proofs.Records.{reads-back, record-again, vote-sayable}
+use Rattle.roundtrip.proofs.Entries.{append-bytes, drop-bytes}
+use Rattle.roundtrip.proofs.Records.{reads-back, record-bytes, record-again, vote-sayable}
 
 none-not-some : {A : Type 0} {B : Type 0} {a : A} → none ≡ some a → B
 none-not-some e = let z : _≡_ {A = ℕ} 0 1 = cc in absurd (omega arith)
@@ -45,6 +47,13 @@ none-joined (v ∷ vs) = ap (before v) (none-joined vs)
 
 all-said : (n : ℕ) (vs : List Vote) → joined vs (votesAfter n 0 []) ≡ some vs
 all-said n vs = ap (joined vs) (none-left n [] refl) ∙ all-joined vs
+
+-- what can be said is written in bytes
+pub votes-bytes : (n : ℕ) → n ≤ nodesMost → (vs : List Vote) → ((v : Vote) → In v vs → sayable n v ≡ true) → AreBytes (messageBytes vs)
+unfolding messageBytes
+votes-bytes n nodes [] h = λ i. lit< tt
+votes-bytes n nodes (v ∷ vs) h =
+    append-bytes (recordBytes v) (messageBytes vs) (record-bytes n nodes v (h v (inl refl))) (votes-bytes n nodes vs (λ w i. h w (inr i)))
 
 module _ (n : ℕ) (nodes : n ≤ nodesMost) where
   votes-first : (vs : List Vote) (rest : List ℕ) → AllSayable n vs → votesAfter n 0 (messageBytes vs ++ rest) ≡ joined vs (votesAfter n 0 rest)

@@ -1,7 +1,7 @@
 -- Records: the head's four bytes tell the vote's numbers, a mask of at most 16 nodes comes back from its two bytes and the entries from theirs.
 use Prim.Native.Nat.{ℕ, zero, suc, _+_, _*_, _/_, _%_, _^_, _≤_, _<_}
 use mathlib.Core.Path.{_≡_, sym, ap, _∙_}
-use mathlib.Core.Bool.{false}
+use mathlib.Core.Bool.{true, false}
 use mathlib.Core.List.{List, [], _∷_, _++_}
 use native.Mathlib.Omega.{arith}
 use borrow.Author.Tests.{lt-leb}
@@ -17,6 +17,7 @@ use Rattle.entries.specs.Bytes.{entrySize, entriesOf, entriesBytes, AreBytes}
 use Rattle.entries.proofs.Reading.{entries-count}
 use Rattle.wire.specs.Sizes.{headSize, recordMost}
 use Rattle.wire.specs.Record.{countOf, sizeOf, voteOf, unreadable, recordBytes}
+use Rattle.wire.specs.Writer.{sayable}
 use Rattle.wire.proofs.Readings.{readable-whole, whole-readable}
 use Rattle.wire.proofs.Writings.{record-length, can-say, said}
 use Rattle.roundtrip.specs.Records.{Sayable, ReadBack}
@@ -49,16 +50,18 @@ module _ (n : ℕ) (nodes : n ≤ nodesMost) (v : Vote) (say : Sayable n v) wher
         size = sym l;
       }
 
+-- what can be said is written in bytes, at most 132
+module _ (n : ℕ) (nodes : n ≤ nodesMost) (v : Vote) (h : sayable n v ≡ true) where
   pub record-bytes : AreBytes (recordBytes v)
   unfolding recordBytes
-  record-bytes zero = let w = said n v (say .test) in omega (arith, w .primary)
-  record-bytes (suc zero) = let w = said n v (say .test) in omega (arith, w .few)
+  record-bytes zero = omega (arith, said n v h .primary)
+  record-bytes (suc zero) = omega (arith, said n v h .few)
   record-bytes (suc (suc zero)) = omega arith
   record-bytes (suc (suc (suc zero))) = omega arith
   record-bytes (suc (suc (suc (suc i)))) = entries-bytes (v .batch) i
 
   pub record-most : length (recordBytes v) ≤ recordMost
-  record-most = let w = said n v (say .test) in omega (arith, w .few, record-length v)
+  record-most = omega (arith, said n v h .few, record-length v)
 
 -- ---- read and written
 

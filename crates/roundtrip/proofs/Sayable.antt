@@ -31,7 +31,7 @@ module _ (n : ℕ) (nodes : sized n ≡ true) (v : Vote) (t : AreEntries (v .bat
       let e = sym (append-nil (recordBytes v)) in
       record {
         bytes = recordBytes v;
-        are-bytes = record-bytes n (sized-most n nodes) v say;
+        are-bytes = record-bytes n (sized-most n nodes) v (say .test);
         reads = ap (unreadable n) e ∙ b .reads;
         vote = ap voteOf e ∙ b .vote;
       }
