@@ -28,7 +28,15 @@ fn copy(bytes: &[u8; MESSAGE_MOST], size: usize, output: &mut [u8]) -> usize
 }
 
 // What node j hands to node i in round r, over the front of the output; its size.
-fn put_message(s: &[u8], faulty: u16, r: usize, i: usize, j: usize, its: Outbox, output: &mut [u8]) -> usize
+fn put_message(
+    s: &[u8],
+    faulty: u16,
+    r: usize,
+    i: usize,
+    j: usize,
+    its: Outbox,
+    output: &mut [u8],
+) -> usize
     requires { ⌜ (j < nodesMost) × (length (messageFor (now s) r j i) ≤ messageMost) × (its .size ≤ messageMost) × (messageMost ≤ length (now output)) ⌝ }
     ensures { λ a. ⌜ (a ≡ length (messageTo (now (s .entry)) faulty r i j its)) × (now (output .exit) ≡ onto (messageTo (now (s .entry)) faulty r i j its) (now (output .entry))) ⌝ }
 {
@@ -43,7 +51,15 @@ fn put_message(s: &[u8], faulty: u16, r: usize, i: usize, j: usize, its: Outbox,
 }
 
 // The same after its length.
-fn put_slot(s: &[u8], faulty: u16, r: usize, i: usize, j: usize, its: Outbox, output: &mut [u8]) -> usize
+fn put_slot(
+    s: &[u8],
+    faulty: u16,
+    r: usize,
+    i: usize,
+    j: usize,
+    its: Outbox,
+    output: &mut [u8],
+) -> usize
     requires { ⌜ (j < nodesMost) × (length (messageFor (now s) r j i) ≤ messageMost) × (its .size ≤ messageMost) × (lengthSize + messageMost ≤ length (now output)) ⌝ }
     ensures { λ a. ⌜ (a ≡ length (inboxBytes (messageTo (now (s .entry)) faulty r i j its ∷ []))) × (now (output .exit) ≡ onto (inboxBytes (messageTo (now (s .entry)) faulty r i j its ∷ [])) (now (output .entry))) ⌝ }
 {
@@ -54,7 +70,15 @@ fn put_slot(s: &[u8], faulty: u16, r: usize, i: usize, j: usize, its: Outbox, ou
 }
 
 // The inbox of node i in round r, over the front of what is lent; its size.
-pub(crate) fn put_inbox(s: &[u8], n: usize, faulty: u16, r: usize, i: usize, outboxes: [Outbox; NODES_MOST], inbox: &mut [u8]) -> usize
+pub(crate) fn put_inbox(
+    s: &[u8],
+    n: usize,
+    faulty: u16,
+    r: usize,
+    i: usize,
+    outboxes: [Outbox; NODES_MOST],
+    inbox: &mut [u8],
+) -> usize
     requires { ⌜ (n ≤ nodesMost) × Short (now s) outboxes × (nodesMost * (lengthSize + messageMost) ≤ length (now inbox)) ⌝ }
     ensures { λ a. ⌜ (a ≡ length (inboxTo (now (s .entry)) n faulty r i outboxes)) × (now (inbox .exit) ≡ onto (inboxTo (now (s .entry)) n faulty r i outboxes) (now (inbox .entry))) ⌝ }
 {

@@ -35,7 +35,15 @@ fn not_played(bad: usize) -> Played
 }
 
 // Whether the send with these numbers breaks the rule, by the states before its round.
-fn breaks_send(s: &[u8], n: usize, faulty: u16, nodes: [Node; NODES_MOST], round: usize, from: usize, to: usize) -> bool
+fn breaks_send(
+    s: &[u8],
+    n: usize,
+    faulty: u16,
+    nodes: [Node; NODES_MOST],
+    round: usize,
+    from: usize,
+    to: usize,
+) -> bool
     requires { ⌜ length (messageFor (now s) round from to) ≤ messageMost ⌝ }
     ensures { λ r. ⌜ r ≡ breaks n faulty nodes (messageFor (now (s .entry)) round from to) ⌝ }
 {

@@ -56,7 +56,15 @@ fn open_node(s: &[u8], n: usize, f: usize, i: usize) -> Stood
 }
 
 // Node i, stepped in round r by what each node hands it.
-fn step_node(s: &[u8], n: usize, faulty: u16, r: usize, i: usize, node: Node, outboxes: [Outbox; NODES_MOST]) -> Stood
+fn step_node(
+    s: &[u8],
+    n: usize,
+    faulty: u16,
+    r: usize,
+    i: usize,
+    node: Node,
+    outboxes: [Outbox; NODES_MOST],
+) -> Stood
     requires { ⌜ (n ≤ nodesMost) × Short (now s) outboxes ⌝ }
     ensures { λ a. ⌜ a ≡ steppedTo node (inboxTo (now (s .entry)) n faulty r i outboxes) ⌝ }
 {
@@ -123,7 +131,14 @@ fn advance(s: &[u8], n: usize, f: usize, faulty: u16, here: Standing) -> Standin
 }
 
 // The run before this round, which is the next or a later one.
-pub(crate) fn advance_to(s: &[u8], n: usize, f: usize, faulty: u16, here: Standing, round: usize) -> Standing
+pub(crate) fn advance_to(
+    s: &[u8],
+    n: usize,
+    f: usize,
+    faulty: u16,
+    here: Standing,
+    round: usize,
+) -> Standing
     requires { ⌜ (formOf (now s) ≡ Good n f) × (faulty ≡ maskOf (isFaulty (now s)) nodesMost) × (here ≡ standing (hallOf (now s) n f) (here .next)) × (here .next ≤ round) × (round ≤ f + 2) ⌝ }
     ensures { λ r. ⌜ r ≡ standing (hallOf (now (s .entry)) n f) round ⌝ }
 {
