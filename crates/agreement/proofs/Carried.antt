@@ -1,25 +1,25 @@
 -- A run that is carried whole keeps what demand 3 grants, where what the faulty nodes send is bytes, short enough for its two length bytes, and keeps the rule
 -- on shown votes: each inbox is put together from the messages, so it is well cut and gives each message back.
-use Prim.Native.Nat.{ℕ, zero, suc, _+_, _*_, _^_, _≤_, _<_}
+use Prim.Native.Nat.{ℕ, zero, suc, _*_, _^_, _≤_, _<_}
 use mathlib.Core.Path.{_≡_, refl, sym, ap, subst, _∙_}
-use mathlib.Core.Logic.{_≢_, inl, inr, ⊎-elim}
+use mathlib.Core.Logic.{_≢_, ⊎-elim}
 use mathlib.Core.Bool.{Bool, true, false, cond}
 use mathlib.Core.List.{List, [], _∷_}
-use native.Mathlib.Nat.{le-refl, le-trans, le-suc}
+use native.Mathlib.Nat.{le-refl}
 use native.Mathlib.Omega.{arith}
-use borrow.Author.Tests.{le-leb, lt-leb, leb-true, leb-false, lt-ltb, eq-eqb, ne-eqb}
+use borrow.Author.Tests.{lt-leb, leb-true, leb-false, lt-ltb, ne-eqb}
 use lib.Dec.{eqb, leb, lit<}
-use lib.ListN.{length, getD}
+use lib.ListN.{length}
 use Rattle.laws.specs.Masks.{count}
 use Rattle.laws.specs.Members.{In}
 use Rattle.laws.proofs.Tests.{clash}
-use Rattle.rules.specs.Sizes.{logMost, sized, sizes, fits, isLog}
+use Rattle.rules.specs.Sizes.{sized, sizes, fits, isLog}
 use Rattle.rules.specs.Step.{gather}
 use Rattle.rules.proofs.Inbox.{gather-of, gather-same}
 use Rattle.rules.proofs.Gathered.{each-length, each-at}
 use Rattle.rules.proofs.Sizes.{majority}
 use Rattle.entries.specs.Bytes.{AreBytes, AreEntries}
-use Rattle.wire.specs.Sizes.{lengthSize, messageMost}
+use Rattle.wire.specs.Sizes.{lengthSize}
 use Rattle.wire.specs.Message.{votesOf}
 use Rattle.wire.specs.Inbox.{messageOf, wellCut, inboxBytes}
 use Rattle.roundtrip.specs.Inboxes.{Fit}
@@ -32,7 +32,7 @@ use Rattle.step.specs.Course.{outbox}
 use Rattle.step.proofs.Courses.{course-sound, outbox-short, outbox-bytes, outbox-same}
 use Rattle.step.proofs.PassedVotes.{within-message}
 use Rattle.step.proofs.Steps.{numbers}
-use Rattle.agreement.specs.Hall.{Hall, nodeAfter, sends, logOf}
+use Rattle.agreement.specs.Hall.{Hall, nodeAfter, sends}
 use Rattle.agreement.specs.Granted.{Round, Correct, Faulty, Room, Granted}
 use Rattle.agreement.specs.Rule.{breaksRule}
 use Rattle.agreement.specs.Carried.{message, carried, roomy, handed, carriedHall}

@@ -2,12 +2,11 @@
 -- is made, or refused by 8 alone.
 use Prim.Native.Nat.{ℕ, suc, _+_, _≤_, _<_}
 use mathlib.Core.Path.{_≡_, refl, sym, ap, _∙_}
-use mathlib.Core.Bool.{Bool, true, false, cond}
+use mathlib.Core.Bool.{Bool, true, false}
 use mathlib.Core.List.{List, [], _∷_}
 use native.Mathlib.Nat.{le-refl, le-trans}
 use native.Mathlib.Omega.{arith}
 use borrow.Author.Tests.{le-leb}
-use lib.Dec.{leb}
 use lib.ListN.{length}
 use Rattle.rules.specs.Sizes.{fits, isLog}
 use Rattle.rules.specs.Refusals.{done}
@@ -17,14 +16,13 @@ use Rattle.rules.specs.Run.{kept, newLog}
 use Rattle.rules.proofs.Inbox.{gather-same}
 use Rattle.rules.proofs.Sent.{kept-few}
 use Rattle.rules.proofs.Sizes.{sizes-told}
-use Rattle.tray.specs.Trays.{entriesOf, soundTray}
+use Rattle.tray.specs.Trays.{entriesOf}
 use Rattle.node.specs.State.{keptFor, soundNode}
 use Rattle.node.specs.declared.Node.{Node}
 use Rattle.node.proofs.Lists.{batch-entries}
 use Rattle.node.proofs.Sound.{of-kept}
-use Rattle.closing.specs.Close.{decisionsOf, newLogOf, closeNumber}
+use Rattle.closing.specs.Close.{newLogOf, closeNumber}
 use Rattle.agreement.specs.Hall.{Hall, nodeAfter, closes, logOf}
-use Rattle.agreement.specs.Granted.{Room}
 use Rattle.agreement.proofs.Follows.{overVotes, ruled, Unhindered, stays-sound, follows}
 
 -- ---- the close of a node whose rounds are over

@@ -1,28 +1,22 @@
 -- Demand 3: the run over votes agrees, and what each correct node's calls answer is what that run says. Slots in bytes are slots as the rules count them.
-use Prim.Native.Nat.{ℕ, _+_, _≤_, _<_}
-use mathlib.Core.Path.{_≡_, refl, sym, ap, _∙_}
-use mathlib.Core.Logic.{_≢_, _⊎_, inl, inr, ⊎-elim}
-use mathlib.Core.Bool.{Bool, true, false}
+use Prim.Native.Nat.{ℕ}
+use mathlib.Core.Path.{sym, _∙_}
+use mathlib.Core.Logic.{inl, inr}
 use mathlib.Core.List.{List}
-use native.Mathlib.Omega.{arith}
 use borrow.Author.Tests.{leb-true}
-use lib.Count.{ones}
-use lib.Dec.{leb}
 use Rattle.rules.specs.Refusals.{done}
-use Rattle.rules.specs.Signers.{Mark, Slot, signersOf, enough}
+use Rattle.rules.specs.Signers.{Mark, signersOf, enough}
 use Rattle.rules.specs.Sizes.{sizes}
-use Rattle.rules.specs.Log.{made, full}
-use Rattle.rules.specs.Run.{Run, newLog}
 use Rattle.rules.specs.Premises.{Correct as CorrectOver, Marked as MarkedOver, Counting as CountingOver, Signing as SigningOver}
-use Rattle.rules.specs.Claim.{OneLog as OneLogOver, Agreed as AgreedOver}
+use Rattle.rules.specs.Claim.{Agreed as AgreedOver}
 use Rattle.rules.proofs.Refusals.{row-passed}
 use Rattle.rules.proofs.Logs.{one-log}
 use Rattle.rules.proofs.Signed.{demand-3 as over-votes}
 use Rattle.signing.specs.Slots.{areSlots, slotOf}
 use Rattle.signing.specs.Count.{signersNumber}
-use Rattle.agreement.specs.Hall.{Hall, closes, logOf}
+use Rattle.agreement.specs.Hall.{Hall, logOf}
 use Rattle.agreement.specs.Granted.{Correct, Granted, Marked, Counting, Signing}
-use Rattle.agreement.specs.Claim.{OneLog, Agreed, Finds, Signed, Demand3}
+use Rattle.agreement.specs.Claim.{Agreed, Signed, Demand3}
 use Rattle.agreement.proofs.Follows.{overVotes}
 use Rattle.agreement.proofs.Granting.{unhindered, granted}
 use Rattle.agreement.proofs.Closes.{made-closes, full-closes, closes-made}

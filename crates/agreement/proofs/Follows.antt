@@ -1,19 +1,17 @@
 -- A node that nothing hinders follows the rules over votes: no call refuses it, so after r rounds it is the node of its own batch and of what the rules keep
 -- of the votes that its inboxes read as.
 use Prim.Native.Nat.{ℕ, zero, suc, _+_, _≤_, _<_}
-use mathlib.Core.Path.{_≡_, refl, sym, ap, subst, _∙_}
+use mathlib.Core.Path.{_≡_, refl, ap, subst, _∙_}
 use mathlib.Core.Bool.{true}
 use mathlib.Core.List.{List, [], _∷_}
 use native.Mathlib.Nat.{le-trans, le-suc}
 use native.Mathlib.Numerals.{add-one}
 use native.Mathlib.Omega.{arith}
 use borrow.Author.Tests.{le-leb}
-use lib.Dec.{leb}
 use lib.ListN.{length}
 use Rattle.rules.specs.Sizes.{nodesMost, sizes}
 use Rattle.rules.specs.Refusals.{done, ifDone}
-use Rattle.rules.specs.Vote.{Vote, opened}
-use Rattle.rules.specs.Step.{gather, keptMost, keptAfter}
+use Rattle.rules.specs.Step.{keptMost, keptAfter}
 use Rattle.rules.specs.Run.{Run, votesAt, kept}
 use Rattle.rules.proofs.Inbox.{gather-same}
 use Rattle.rules.proofs.Sent.{kept-few}
@@ -24,9 +22,8 @@ use Rattle.wire.specs.Inbox.{wellCut}
 use Rattle.tray.specs.Trays.{entriesOf, soundTray}
 use Rattle.tray.specs.declared.Tray.{Tray}
 use Rattle.node.specs.Batches.{keptAs}
-use Rattle.node.specs.State.{keptFor, soundNode, nodeOf, fresh}
+use Rattle.node.specs.State.{soundNode, nodeOf, fresh}
 use Rattle.node.specs.Opening.{openingVote, openedNode, openNumber}
-use Rattle.node.specs.declared.Kept.{Kept}
 use Rattle.node.specs.declared.Node.{Node}
 use Rattle.node.proofs.Sound.{of-kept}
 use Rattle.round.specs.Found.{heardFrom}

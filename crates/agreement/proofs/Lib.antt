@@ -4,4 +4,7 @@ pub mod Granting
 pub mod Closes
 pub mod Demand3
 pub mod Shown
+pub mod SentBy
 pub mod Carried
+pub mod AllCorrect
+pub mod Calls

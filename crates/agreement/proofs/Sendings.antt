@@ -1,42 +1,41 @@
 -- What a node that nothing hinders sends reads back as the votes that the rules send: the opening is one vote that can be said, and what a step writes reads back.
 use Prim.Native.Nat.{ℕ, zero, suc, _+_, _≤_, _<_}
 use mathlib.Core.Path.{_≡_, refl, sym, ap, subst, _∙_}
-use mathlib.Core.Logic.{inl, ⊎-elim}
-use mathlib.Core.Bool.{Bool, true, cond}
-use mathlib.Core.List.{List, [], _∷_, _++_, map, append-nil}
+use mathlib.Core.Logic.{⊎-elim}
+use mathlib.Core.Bool.{true, cond}
+use mathlib.Core.List.{List, [], _∷_, map, append-nil}
 use mathlib.Core.Option.{some}
 use native.Mathlib.Nat.{le-trans, le-suc}
 use native.Mathlib.Omega.{arith}
 use lib.Dec.{eqb}
 use lib.ListN.{length}
 use Rattle.laws.specs.Members.{In}
-use Rattle.rules.specs.Sizes.{nodesMost}
-use Rattle.rules.specs.Refusals.{done, ifDone}
+use Rattle.rules.specs.Refusals.{ifDone}
 use Rattle.rules.specs.Vote.{Batch, Vote, opened, passedOn}
-use Rattle.rules.specs.Step.{gather, keptMost, newly, passesOn}
-use Rattle.rules.specs.Run.{Run, votesAt, kept, sent}
+use Rattle.rules.specs.Step.{keptMost, newly, passesOn}
+use Rattle.rules.specs.Run.{votesAt, kept, sent}
+use Rattle.rules.specs.Premises.{HasSent as Sent}
 use Rattle.rules.proofs.Inbox.{gather-same}
 use Rattle.rules.proofs.Sent.{kept-few}
 use Rattle.rules.proofs.Sizes.{Sized, sizes-told}
-use Rattle.wire.specs.Sizes.{recordMost, messageMost}
+use Rattle.wire.specs.Sizes.{recordMost}
 use Rattle.wire.specs.Record.{recordBytes}
-use Rattle.wire.specs.Message.{votesOf, messageBytes}
+use Rattle.wire.specs.Message.{votesAfter, votesOf, messageBytes}
 use Rattle.roundtrip.specs.Records.{Sayable}
 use Rattle.roundtrip.proofs.Claim.{round-trips}
-use Rattle.tray.specs.Trays.{entriesOf, soundTray}
-use Rattle.tray.specs.declared.Tray.{Tray}
+use Rattle.tray.specs.Trays.{entriesOf}
 use Rattle.node.specs.State.{keptFor, soundNode, fresh}
 use Rattle.node.specs.Opening.{openingVote}
 use Rattle.node.specs.declared.Node.{Node}
 use Rattle.node.proofs.Sound.{of-kept}
 use Rattle.node.proofs.StaySound.{fresh-is-sound, opening-size}
 use Rattle.node.proofs.Openings.{opening-sayable}
-use Rattle.step.specs.Step.{passedBy, stepNumber}
+use Rattle.step.specs.Step.{passedBy}
 use Rattle.step.specs.Course.{made, outbox}
 use Rattle.step.proofs.Courses.{made-is-fresh}
 use Rattle.step.proofs.ReadsBack.{outbox-reads-back}
 use Rattle.agreement.specs.Hall.{Hall, nodeAfter, sends}
-use Rattle.agreement.specs.Granted.{Round}
+use Rattle.agreement.specs.Granted.{Round, HasSent}
 use Rattle.agreement.proofs.Follows.{overVotes, ruled, Unhindered, stays-sound, opens, follows, steps}
 
 -- what is passed on depends on what was kept for the nodes alone
@@ -46,6 +45,15 @@ unfolding passesOn
 passes-same n f me r kept other votes h =
     ap (λ (vs : List Vote). cond (eqb r (f + 1)) [] vs)
     (gather-same _ _ n (λ p l. ap (λ (bs : List Batch). map (passedOn me) (newly keptMost r p bs votes)) (h p l)))
+
+-- nothing is sent before round 1
+sends-nothing : (hall : Hall) (c : ℕ) → votesOf (hall .n) (sends hall c 0) ≡ some []
+unfolding outbox votesOf votesAfter
+sends-nothing hall c = refl
+
+-- one list of votes
+some-same : {A : Type 0} {x y : A} → some x ≡ some y → x ≡ y
+some-same e = cc
 
 module _ (hall : Hall) (i : ℕ) (U : Unhindered hall i) where
   abbrev n : ℕ
@@ -108,3 +116,15 @@ module _ (hall : Hall) (i : ℕ) (U : Unhindered hall i) where
   sends-read zero b = absurd (omega (arith, b .first))
   sends-read (suc zero) b = ap (votesOf n) opening-sent ∙ opening-reads
   sends-read (suc (suc r)) b = passed-reads r (record { first = omega arith; last = le-trans (le-suc (suc r)) (b .last) })
+
+  -- a record that it sent is a vote that the rules sent
+  pub sent-ruled : (r p : ℕ) (b : Batch) → r ≤ hall .f + 1 → HasSent hall r i p b → Sent (overVotes hall) r i p b
+  sent-ruled r p b l s = record { round = s .round; by = omega (arith, s .by); vote = s .vote; its = its (s .round) refl; of = s .of; says = s .says }
+    where
+      its : (q : ℕ) → s .round ≡ q → In (s .vote) (sent (overVotes hall) (s .round) i)
+      its zero e =
+          let none-sent : s .votes ≡ [] = some-same (sym (s .read) ∙ ap (λ (k : ℕ). votesOf n (sends hall i k)) e ∙ sends-nothing hall i) in
+          absurd (subst (In (s .vote)) none-sent (s .its))
+      its (suc q) e =
+          let round : Round hall (s .round) = record { first = omega arith; last = omega (arith, s .by) } in
+          subst (In (s .vote)) (some-same (sym (s .read) ∙ sends-read (s .round) round)) (s .its)

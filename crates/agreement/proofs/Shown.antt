@@ -1,13 +1,12 @@
 -- The rule on shown votes is the demand's premise: where a readable message does not break it, a correct node whose bit a vote shows has sent that vote.
-use Prim.Native.Nat.{ℕ, zero, suc, _≤_, _<_}
-use mathlib.Core.Path.{_≡_, refl, sym, ap, subst, _∙_}
-use mathlib.Core.Logic.{_⊎_, inl, inr, ⊎-elim}
-use mathlib.Core.Bool.{Bool, true, false, not, _&&_, _||_}
+use Prim.Native.Nat.{ℕ, zero, suc}
+use mathlib.Core.Path.{_≡_, refl, sym, ap, subst}
+use mathlib.Core.Bool.{Bool, true, false, not}
 use mathlib.Core.List.{List, [], _∷_}
-use mathlib.Core.Option.{Option, none, some}
+use mathlib.Core.Option.{Option, some}
 use native.Mathlib.Nat.{le-refl, le-trans, le-suc}
 use native.Mathlib.Omega.{arith}
-use borrow.Author.Tests.{ltb-true, ltb-false, eqb-true, not-true}
+use borrow.Author.Tests.{ltb-false, eqb-true}
 use lib.Dec.{eqb, ltb}
 use lib.ListN.{length}
 use Rattle.laws.specs.Masks.{every}
@@ -56,7 +55,7 @@ module _ (hall : Hall) where
     says = s .says;
   }
 
-  has-sent : (r c p : ℕ) (b : Batch) → hasSent hall r c p b ≡ true → HasSent hall r c p b
+  pub has-sent : (r c p : ℕ) (b : Batch) → hasSent hall r c p b ≡ true → HasSent hall r c p b
   unfolding hasSent
   has-sent zero c p b h = absurd (clash h refl)
   has-sent (suc r) c p b h = go (among b (batchesSent hall (suc r) c p)) refl (has-sent r c p b)

@@ -1,6 +1,6 @@
 -- "Then after round f + 1 all correct nodes make the same log, with every entry a correct node opened with, or all are told the log is full. [..] each with
 -- a log finds f + 1 signers, and no other mark can."
-use Prim.Native.Nat.{ℕ, _+_, _≤_, _<_}
+use Prim.Native.Nat.{ℕ, _+_, _≤_}
 use mathlib.Core.Path.{_≡_}
 use mathlib.Core.Logic.{_⊎_}
 use mathlib.Core.Bool.{true}

@@ -1,9 +1,7 @@
 -- A run in bytes: n nodes that step in order, each on the course that `Node::new`, `open` and `step` give it, and close after round f + 1.
 use Prim.Native.Nat.{ℕ, _+_}
-use mathlib.Core.Path.{_≡_}
-use mathlib.Core.Bool.{Bool, false}
+use mathlib.Core.Bool.{Bool}
 use mathlib.Core.List.{List}
-use Rattle.rules.specs.Sizes.{fits}
 use Rattle.tray.specs.declared.Tray.{Tray}
 use Rattle.node.specs.declared.Node.{Node}
 use Rattle.step.specs.Course.{after, outbox}
