@@ -1,0 +1,86 @@
+// Playing a schedule: the rule is checked in file order, each send on the states before its round; then the rounds that are left.
+ghost use mathlib.Core.Path.{_≡_};
+ghost use Prim.Native.Nat.{_≤_, zero, suc};
+ghost use lib.ListN.{length};
+ghost use Rattle.laws.specs.Masks.{maskOf};
+ghost use Rattle.rules.specs.Sizes.{nodesMost};
+ghost use Rattle.wire.specs.Sizes.{messageMost};
+ghost use Rattle.schedule.specs.Forms.{formOf};
+ghost use Rattle.schedule.specs.declared.Form.the-variants.{Good};
+ghost use Rattle.contents.specs.Contents.{isFaulty, messageFor};
+ghost use Rattle.shown.specs.Shown.{breaks};
+ghost use Rattle.played.specs.Standing.{standing};
+ghost use Rattle.played.specs.Playing.{breach, hallOf, noNodes, playedOf, playedTo};
+use crate::Played;
+use crate::Standing;
+use crate::rounds::advance_to;
+use crate::rounds::no_node;
+use node::Node;
+use rules::NODES_MOST;
+use schedule::Form;
+use schedule::HEADER_SIZE;
+use schedule::Sending;
+use wire::MESSAGE_MOST;
+
+// Nothing is played: no nodes, with the line that is bad.
+fn not_played(bad: usize) -> Played
+    ensures { λ r. ⌜ r ≡ record { bad = bad; nodes = noNodes } ⌝ }
+{
+    let filler = no_node();
+    let nobody = filler.node;
+    Played {
+        bad: bad,
+        nodes: [nobody; NODES_MOST],
+    }
+}
+
+// Whether the send with these numbers breaks the rule, by the states before its round.
+fn breaks_send(
+    s: &[u8],
+    n: usize,
+    faulty: u16,
+    nodes: [Node; NODES_MOST],
+    round: usize,
+    from: usize,
+    to: usize,
+) -> bool
+    requires { ⌜ length (messageFor (now s) round from to) ≤ messageMost ⌝ }
+    ensures { λ r. ⌜ r ≡ breaks n faulty nodes (messageFor (now (s .entry)) round from to) ⌝ }
+{
+    let mut message = [0u8; MESSAGE_MOST];
+    let size = contents::message_into(s, round, from, to, &mut message);
+    shown::breaks_rule(n, faulty, nodes, &message[..size])
+}
+
+// The schedule has a good form with these sizes.
+fn play_good(s: &[u8], n: usize, f: usize, start: Standing) -> Played
+    requires { ⌜ (formOf (now s) ≡ Good n f) × (start ≡ standing (hallOf (now s) n f) 0) ⌝ }
+    ensures { λ r. ⌜ r ≡ playedTo (hallOf (now (s .entry)) n f) (breach (now (s .entry)) n f) ⌝ }
+{
+    let faulty = contents::faulty_mask(s);
+    let count = contents::send_count(s);
+    let mut here = start;
+    let mut k: usize = 0;
+    while k < count {
+        match contents::send_at(s, k) {
+            Sending::Sent { round, from, to } => {
+                let before = advance_to(s, n, f, faulty, here, round);
+                here = before;
+                let nodes = before.nodes;
+                if breaks_send(s, n, faulty, nodes, round, from, to) {
+                    return not_played(HEADER_SIZE + 1 + n + k);
+                }
+            }
+            Sending::NoSend => {
+                return not_played(0);
+            }
+        }
+        k += 1;
+    }
+    let last = advance_to(s, n, f, faulty, here, f + 2);
+    let nodes = last.nodes;
+    Played {
+        bad: 0,
+        nodes: nodes,
+    }
+}

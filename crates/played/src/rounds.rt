@@ -1,0 +1,151 @@
+// The rounds: every correct node opens, then steps round after round, all of them in each.
+ghost use mathlib.Core.Path.{_≡_};
+ghost use mathlib.Core.List.{[]};
+ghost use Prim.Native.Nat.{_+_, _≤_, _<_, suc};
+ghost use Rattle.laws.specs.Masks.{maskOf};
+ghost use Rattle.rules.specs.Sizes.{nodesMost};
+ghost use Rattle.agreement.specs.Hall.{nodeAfter, sends};
+ghost use Rattle.schedule.specs.Forms.{formOf};
+ghost use Rattle.schedule.specs.declared.Form.the-variants.{Good};
+ghost use Rattle.contents.specs.Contents.{isFaulty};
+ghost use Rattle.played.specs.Inboxes.{Short, inboxTo};
+ghost use Rattle.played.specs.Standing.{nobody, standing, steppedTo, stoodAt, stoodOf};
+ghost use Rattle.played.specs.Playing.{hallOf};
+use crate::INBOX_MOST;
+use crate::Outbox;
+use crate::Standing;
+use crate::Stood;
+use crate::inboxes::put_inbox;
+use node::Node;
+use rules::NODES_MOST;
+use wire::MESSAGE_MOST;
+
+// A number that no correct node has.
+pub(crate) fn no_node() -> Stood
+    ensures { λ r. ⌜ r ≡ stoodOf nobody [] ⌝ }
+{
+    let made = Node::new(0, 0, 0);
+    let node = made.node;
+    let outbox = Outbox {
+        size: 0,
+        bytes: [0u8; MESSAGE_MOST],
+    };
+    Stood {
+        node: node,
+        outbox: outbox,
+    }
+}
+
+// Node i, opened with its tray.
+fn open_node(s: &[u8], n: usize, f: usize, i: usize) -> Stood
+    ensures { λ r. ⌜ r ≡ stoodOf (nodeAfter (hallOf (now (s .entry)) n f) i 0) (sends (hallOf (now (s .entry)) n f) i 1) ⌝ }
+{
+    let made = Node::new(n, f, i);
+    let fresh = made.node;
+    let mut bytes = [0u8; MESSAGE_MOST];
+    let opened = node::open(fresh, contents::tray_of(s, i), &mut bytes);
+    let node = opened.node;
+    let outbox = Outbox {
+        size: opened.length,
+        bytes: bytes,
+    };
+    Stood {
+        node: node,
+        outbox: outbox,
+    }
+}
+
+// Node i, stepped in round r by what each node hands it.
+fn step_node(
+    s: &[u8],
+    n: usize,
+    faulty: u16,
+    r: usize,
+    i: usize,
+    node: Node,
+    outboxes: [Outbox; NODES_MOST],
+) -> Stood
+    requires { ⌜ (n ≤ nodesMost) × Short (now s) outboxes ⌝ }
+    ensures { λ a. ⌜ a ≡ steppedTo node (inboxTo (now (s .entry)) n faulty r i outboxes) ⌝ }
+{
+    let mut inbox = [0u8; INBOX_MOST];
+    let size = put_inbox(s, n, faulty, r, i, outboxes, &mut inbox);
+    let mut bytes = [0u8; MESSAGE_MOST];
+    let stepped = step::step(node, &inbox[..size], &mut bytes);
+    let after = stepped.node;
+    let outbox = Outbox {
+        size: stepped.length,
+        bytes: bytes,
+    };
+    Stood {
+        node: after,
+        outbox: outbox,
+    }
+}
+
+// Node i after the opening or the round that is next; zeros where no correct node has that number.
+fn next_node(s: &[u8], n: usize, f: usize, faulty: u16, here: Standing, i: usize) -> Stood
+    requires { ⌜ (i < nodesMost) × (formOf (now s) ≡ Good n f) × (faulty ≡ maskOf (isFaulty (now s)) nodesMost) × (here ≡ standing (hallOf (now s) n f) (here .next)) × (here .next ≤ f + 1) ⌝ }
+    ensures { λ r. ⌜ r ≡ stoodAt (hallOf (now (s .entry)) n f) (here .next + 1) i ⌝ }
+{
+    if n <= i {
+        return no_node();
+    }
+    if (faulty >> i) % 2 == 1 {
+        return no_node();
+    }
+    let round = here.next;
+    if round == 0 {
+        return open_node(s, n, f, i);
+    }
+    let nodes = here.nodes;
+    let outboxes = here.outboxes;
+    let node = nodes[i];
+    step_node(s, n, faulty, round, i, node, outboxes)
+}
+
+// The run after the opening or the round that is next.
+fn advance(s: &[u8], n: usize, f: usize, faulty: u16, here: Standing) -> Standing
+    requires { ⌜ (formOf (now s) ≡ Good n f) × (faulty ≡ maskOf (isFaulty (now s)) nodesMost) × (here ≡ standing (hallOf (now s) n f) (here .next)) × (here .next ≤ f + 1) ⌝ }
+    ensures { λ r. ⌜ r ≡ standing (hallOf (now (s .entry)) n f) (here .next + 1) ⌝ }
+{
+    let filler = no_node();
+    let nobody = filler.node;
+    let silence = filler.outbox;
+    let mut nodes = [nobody; NODES_MOST];
+    let mut outboxes = [silence; NODES_MOST];
+    let mut i: usize = 0;
+    while i < NODES_MOST {
+        let stood = next_node(s, n, f, faulty, here, i);
+        let node = stood.node;
+        let outbox = stood.outbox;
+        nodes[i] = node;
+        outboxes[i] = outbox;
+        i += 1;
+    }
+    Standing {
+        next: here.next + 1,
+        nodes: nodes,
+        outboxes: outboxes,
+    }
+}
+
+// The run before this round, which is the next or a later one.
+pub(crate) fn advance_to(
+    s: &[u8],
+    n: usize,
+    f: usize,
+    faulty: u16,
+    here: Standing,
+    round: usize,
+) -> Standing
+    requires { ⌜ (formOf (now s) ≡ Good n f) × (faulty ≡ maskOf (isFaulty (now s)) nodesMost) × (here ≡ standing (hallOf (now s) n f) (here .next)) × (here .next ≤ round) × (round ≤ f + 2) ⌝ }
+    ensures { λ r. ⌜ r ≡ standing (hallOf (now (s .entry)) n f) round ⌝ }
+{
+    let mut at = here;
+    while at.next < round {
+        let after = advance(s, n, f, faulty, at);
+        at = after;
+    }
+    at
+}

@@ -1,0 +1,4 @@
+pub mod Keys
+pub mod Header
+pub mod Sends
+pub mod Forms

@@ -1,0 +1,7 @@
+pub mod Scan
+pub mod Digits
+pub mod Cuts
+pub mod Commas
+pub mod Keys
+pub mod Pairs
+pub mod Written
