@@ -1,0 +1,32 @@
+-- What the rehearsal prints of a run that is over: "n, f, then for each correct node, ascending, its number, log and signers".
+use Prim.Native.Nat.{ℕ, _<_, _≤_}
+use mathlib.Core.Path.{_≡_}
+use mathlib.Core.Bool.{Bool}
+use mathlib.Core.List.{List, []}
+use lib.ListN.{length, getD}
+use Rattle.laws.specs.Parts.{onto}
+use Rattle.rules.specs.Sizes.{nodesMost}
+use Rattle.node.specs.declared.Node.{Node}
+use Rattle.report.specs.Logs.{logOf}
+use Rattle.report.specs.Signing.{hasBit}
+use Rattle.report.specs.Lines.{linesText, reportLines}
+
+-- the whole text; node i: the state of node i after round f + 1, where it is correct
+abbrev pub reportOf : (n f : ℕ) (faulty : ℕ → Bool) (node : ℕ → Node) → List ℕ
+reportOf n f faulty node = linesText (reportLines n f faulty (λ (i : ℕ). logOf (node i)))
+
+-- node i of those handed over
+abbrev pub nodeAt : List Node → ℕ → Node
+nodeAt nodes i = getD nodes i (record { n = 0; f = 0; me = 0; phase = 0; own = record { count = 0; entries = [] }; kept = [] })
+
+-- w is to be written over the front of a text that has room for it: how many bytes are, and the text afterwards
+pub record Writes (w text : List ℕ) (answer : ℕ) (after : List ℕ) : Type 0 where
+  pub within : answer ≤ length text
+  pub answers : length w ≤ length text → answer ≡ length w
+  pub leaves : length w ≤ length text → after ≡ onto w text
+
+-- what `report_into` promises; nothing is written of more than sixteen nodes
+pub record Reports (n f faulty : ℕ) (nodes : List Node) (text : List ℕ) (answer : ℕ) (after : List ℕ) : Type 0 where
+  pub writes : n ≤ nodesMost → Writes (reportOf n f (hasBit faulty) (nodeAt nodes)) text answer after
+  pub nothing : nodesMost < n → answer ≡ 0
+  pub untouched : nodesMost < n → after ≡ text

@@ -1,0 +1,29 @@
+-- "The answer is the mask of signers, with f + 1 or more of them." "`signers=` would be empty if refused": a refusal's mask is 0.
+use Prim.Native.Nat.{ℕ}
+use mathlib.Core.Bool.{Bool, cond}
+use mathlib.Core.List.{List, [], _∷_}
+use lib.Dec.{eqb}
+use Rattle.laws.specs.Masks.{bit}
+use Rattle.rules.specs.Refusals.{ifDone}
+use Rattle.rules.specs.Signers.{Mark, signersOf}
+use Rattle.rules.specs.Step.{gather}
+use Rattle.signing.specs.Slots.{slotOf}
+use Rattle.signing.specs.Count.{signersNumber}
+use Rattle.report.specs.Marks.{markAt}
+use Rattle.report.specs.Spoken.{slotsAt}
+
+-- node j's bit is set
+abbrev pub hasBit : (mask j : ℕ) → Bool
+hasBit mask j = eqb (bit mask j) 1
+
+-- those of n nodes that pass the test, ascending
+unfoldable pub nodesThat : (ℕ → Bool) → (n : ℕ) → List ℕ
+nodesThat t n = gather (λ (j : ℕ). cond (t j) (j ∷ []) []) n
+
+-- the mask that the signing count of node i answers
+abbrev pub countedWith : (n f i : ℕ) (mark : Mark) (slots : List ℕ) → ℕ
+countedWith n f i mark slots = ifDone (signersNumber n f i mark slots) (signersOf n i mark (slotOf slots)) 0
+
+-- the signers of node i's log, as that node counts them
+abbrev pub signersAt : (n f : ℕ) (faulty : ℕ → Bool) (log : ℕ → List ℕ) (i : ℕ) → List ℕ
+signersAt n f faulty log i = nodesThat (hasBit (countedWith n f i (markAt faulty log n i) (slotsAt faulty log n))) n

@@ -1,0 +1,96 @@
+// The printed lines.
+ghost use mathlib.Core.Path.{_≡_};
+ghost use mathlib.Core.Bool.{cond, false};
+ghost use mathlib.Core.List.{[], _∷_};
+ghost use Prim.Native.Nat.{_<_, _≤_};
+ghost use lib.ListN.{getD};
+ghost use Rattle.rules.specs.Sizes.{nodesMost};
+ghost use Rattle.closing.specs.Gather.{decidedMost};
+ghost use Rattle.print.specs.Texts.{lineText, listText};
+ghost use Rattle.print.specs.declared.Items.the-variants.{Entries, Nodes};
+ghost use Rattle.report.specs.Marks.{markWith};
+ghost use Rattle.report.specs.Signing.{countedWith, hasBit, nodesThat};
+ghost use Rattle.report.specs.Lines.{allLines, linesText, logKey, nodeLines, signersKey, sizesLines};
+ghost use Rattle.report.specs.Report.{Writes};
+ghost use Rattle.report.specs.Held.{AllFit, heldAt, logIn};
+use crate::logs::HeldLog;
+use crate::logs::MADE_MOST;
+use crate::logs::has_bit;
+use crate::signers;
+use print::Items;
+use rules::NODES_MOST;
+
+// n and f.
+pub(crate) fn put_sizes(text: &mut [u8], n: usize, f: usize) -> usize
+    ensures { λ r. ⌜ Writes (linesText (sizesLines n f)) (now (text .entry)) r (now (text .exit)) ⌝ }
+{
+    let a = print::put_number_line(text, b"n=", n as u64);
+    let b = print::put_number_line(&mut text[a..], b"f=", f as u64);
+    a + b
+}
+
+// A log, the first of some places.
+fn put_log(text: &mut [u8], count: usize, places: &[u64; MADE_MOST]) -> usize
+    requires { ⌜ count ≤ decidedMost ⌝ }
+    ensures { λ r. ⌜ Writes (lineText logKey (listText Entries (logIn (record { count = count; entries = now (places .entry) })))) (now (text .entry)) r (now (text .exit)) ⌝ }
+{
+    let all: &[u64] = places;
+    print::put_list_line(text, b"log=", Items::Entries, &all[..count])
+}
+
+// The nodes whose bit is set.
+fn put_signers(text: &mut [u8], n: usize, mask: u16) -> usize
+    requires { ⌜ n ≤ nodesMost ⌝ }
+    ensures { λ r. ⌜ Writes (lineText signersKey (listText Nodes (nodesThat (hasBit mask) n))) (now (text .entry)) r (now (text .exit)) ⌝ }
+{
+    let listing = signers::nodes_in(n, mask);
+    let count = listing.count;
+    let nodes = listing.nodes;
+    print::put_list_line(text, b"signers=", Items::Nodes, &nodes[..count])
+}
+
+// Node i: its number, log and signers.
+fn put_node(text: &mut [u8], n: usize, i: usize, log: HeldLog, mask: u16) -> usize
+    requires { ⌜ (n ≤ nodesMost) × (log .count ≤ decidedMost) ⌝ }
+    ensures { λ r. ⌜ Writes (linesText (nodeLines i (logIn log) (nodesThat (hasBit mask) n))) (now (text .entry)) r (now (text .exit)) ⌝ }
+{
+    let a = print::put_number_line(text, b"node=", i as u64);
+    let b = put_log(&mut text[a..], log.count, &log.entries);
+    let at = a + b;
+    let c = put_signers(&mut text[at..], n, mask);
+    at + c
+}
+
+// Node i where it is correct; nothing of a faulty one.
+fn put_correct(text: &mut [u8], n: usize, f: usize, faulty: u16, i: usize, log: HeldLog, number: u8, slots: &[u8]) -> usize
+    requires { ⌜ (n ≤ nodesMost) × (i < n) × (hasBit faulty i ≡ false → log .count ≤ decidedMost) ⌝ }
+    ensures { λ r. ⌜ Writes (linesText (cond (hasBit faulty i) [] (nodeLines i (logIn log) (nodesThat (hasBit (countedWith n f i (markWith number) (now (slots .entry)))) n)))) (now (text .entry)) r (now (text .exit)) ⌝ }
+{
+    if has_bit(faulty, i) {
+        return 0;
+    }
+    let mask = signers::counted(n, f, i, number, slots);
+    put_node(text, n, i, log, mask)
+}
+
+// Each correct node, ascending.
+pub(crate) fn put_nodes(
+    text: &mut [u8],
+    n: usize,
+    f: usize,
+    faulty: u16,
+    logs: [HeldLog; NODES_MOST],
+    numbers: [u8; NODES_MOST],
+    slots: &[u8],
+) -> usize
+    requires { ⌜ (n ≤ nodesMost) × AllFit (hasBit faulty) n logs ⌝ }
+    ensures { λ r. ⌜ Writes (linesText (allLines (hasBit faulty) (λ i. logIn (heldAt logs i)) (λ i. nodesThat (hasBit (countedWith n f i (markWith (getD numbers i 0)) (now (slots .entry)))) n) n)) (now (text .entry)) r (now (text .exit)) ⌝ }
+{
+    let mut at = 0;
+    let mut i = 0;
+    while i < n {
+        at += put_correct(&mut text[at..], n, f, faulty, i, logs[i], numbers[i], slots);
+        i += 1;
+    }
+    at
+}
