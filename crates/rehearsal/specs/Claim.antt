@@ -1,0 +1,32 @@
+-- Of every schedule that is not bad, all printed logs are the same log, it has every entry of every correct node's tray, and every printed `signers` is exactly
+-- the correct nodes, f + 1 or more.
+use Prim.Native.Nat.{ℕ, _+_, _≤_, _<_}
+use mathlib.Core.Path.{_≡_}
+use mathlib.Core.Bool.{false, not, cond}
+use mathlib.Core.List.{List, [], _++_}
+use lib.ListN.{length}
+use Rattle.laws.specs.Members.{In}
+use Rattle.rules.specs.Step.{gather}
+use Rattle.schedule.specs.Forms.{formOf}
+use Rattle.schedule.specs.declared.Form.the-variants.{Good}
+use Rattle.contents.specs.Contents.{isFaulty, entriesOfTray}
+use Rattle.played.specs.Playing.{breach}
+use Rattle.report.specs.Signing.{nodesThat}
+use Rattle.report.specs.Lines.{linesText, sizesLines, nodeLines}
+use Rattle.rehearsal.specs.Rehearsal.{rehearsalOf}
+
+-- the correct nodes of n
+abbrev pub correctNodes : (s : List ℕ) (n : ℕ) → List ℕ
+correctNodes s n = nodesThat (λ (j : ℕ). not (isFaulty s j)) n
+
+-- n, f, then for each correct node its number, this log and these signers
+abbrev pub oneText : (s : List ℕ) (n f : ℕ) (log signers : List ℕ) → List ℕ
+oneText s n f log signers = linesText (sizesLines n f ++ gather (λ (i : ℕ). cond (isFaulty s i) [] (nodeLines i log signers)) n)
+
+pub record OneLog (s : List ℕ) (n f : ℕ) (log : List ℕ) : Type 0 where
+  pub prints : rehearsalOf s ≡ oneText s n f log (correctNodes s n)
+  pub opened-in : (c e : ℕ) → c < n → isFaulty s c ≡ false → In e (entriesOfTray s c) → In e log
+  pub enough : f + 1 ≤ length (correctNodes s n)
+
+abbrev pub RehearsalsAgree : Type 0
+RehearsalsAgree = (s : List ℕ) (n f : ℕ) → formOf s ≡ Good n f → breach s n f ≡ 0 → (log : List ℕ) × OneLog s n f log

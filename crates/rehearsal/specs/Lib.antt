@@ -1,0 +1,3 @@
+pub mod Rehearsal
+pub mod Telling
+pub mod Claim
