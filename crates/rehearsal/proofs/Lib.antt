@@ -1,0 +1,3 @@
+pub mod ReportSame
+pub mod Premises
+pub mod Agreed

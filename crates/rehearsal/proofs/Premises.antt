@@ -1,0 +1,80 @@
+-- A schedule of good form that does not break the rule on shown votes is a run that demand 3 grants: its run is carried whole, and every message of a faulty
+-- node is one of its sends, or silence.
+use Prim.Native.Nat.{ℕ, zero, suc, _+_, _*_, _^_, _≤_, _<_}
+use mathlib.Core.Path.{_≡_, refl, sym, ap, subst, _∙_}
+use mathlib.Core.Bool.{Bool, true, false, cond}
+use mathlib.Core.List.{List, [], _∷_}
+use native.Mathlib.Omega.{arith}
+use borrow.Author.Tests.{eqb-true}
+use lib.Dec.{eqb}
+use lib.ListN.{length}
+use Rattle.laws.specs.Masks.{count}
+use Rattle.laws.proofs.Tests.{both}
+use Rattle.rules.specs.Sizes.{sized, isBatch, fits, isLog}
+use Rattle.entries.specs.Bytes.{AreBytes, AreEntries}
+use Rattle.wire.specs.Sizes.{messageMost}
+use Rattle.wire.specs.Message.{votesAfter, votesOf}
+use Rattle.tray.specs.Trays.{trayOf}
+use Rattle.tray.proofs.Sound.{of-entries, of-is-sound}
+use Rattle.agreement.specs.Hall.{Hall}
+use Rattle.agreement.specs.Granted.{Granted}
+use Rattle.agreement.specs.Rule.{breaksRule}
+use Rattle.agreement.proofs.Carried.{carried-granted}
+use Rattle.schedule.specs.Header.{headerSize}
+use Rattle.schedule.specs.Sends.{Send}
+use Rattle.schedule.specs.Forms.{formOf}
+use Rattle.schedule.specs.declared.Form.the-variants.{Good}
+use Rattle.contents.specs.Contents.{isFaulty, entriesOfTray, sendsOf, messageFor, messageIn, numbered}
+use Rattle.played.specs.Playing.{hallOf, breachFrom, breach}
+
+-- what the form tells of a schedule
+pub record Told (s : List ℕ) (n f : ℕ) : Type 0 where
+  pub nodes : sized n ≡ true
+  pub above : 2 * f < n
+  pub few : count (isFaulty s) n ≤ f
+  pub trays : (i : ℕ) → i < n → isBatch (entriesOfTray s i) ≡ true
+  pub entries : (i : ℕ) → i < n → AreEntries (entriesOfTray s i)
+  pub short : (r j i : ℕ) → length (messageFor s r j i) ≤ messageMost
+  pub bytes : (r j i : ℕ) → AreBytes (messageFor s r j i)
+
+-- silence shows nothing
+silence-keeps : (hall : Hall) (r : ℕ) → breaksRule hall r [] ≡ false
+unfolding breaksRule votesOf votesAfter
+silence-keeps hall r = refl
+
+numbers-are : (r j i q k l : ℕ) → numbered r j i q k l ≡ true → q ≡ r
+unfolding numbered
+numbers-are r j i q k l h = eqb-true q r (both (eqb q r) _ h .0)
+
+-- where no send breaks the rule, no message does
+message-keeps : (hall : Hall) (k : ℕ) (xs : List Send) → 0 < k → breachFrom hall k xs ≡ 0 → (r j i : ℕ) → breaksRule hall r (messageIn r j i xs) ≡ false
+unfolding breachFrom messageIn
+message-keeps hall k [] l h r j i = silence-keeps hall r
+message-keeps hall k (x ∷ xs) l h r j i =
+    go (breaksRule hall (x .round) (x .message)) refl (numbered r j i (x .round) (x .from) (x .to)) refl
+    (λ g. message-keeps hall (suc k) xs (omega arith) g r j i)
+  where
+    go : (b : Bool) → breaksRule hall (x .round) (x .message) ≡ b → (t : Bool) → numbered r j i (x .round) (x .from) (x .to) ≡ t
+        → (breachFrom hall (suc k) xs ≡ 0 → breaksRule hall r (messageIn r j i xs) ≡ false)
+        → breaksRule hall r (cond (numbered r j i (x .round) (x .from) (x .to)) (x .message) (messageIn r j i xs)) ≡ false
+    go true e t q rest = absurd (let z : k ≡ 0 = rw e at h in omega arith)
+    go false e true q rest = rw q (subst (λ (y : ℕ). breaksRule hall y (x .message) ≡ false) (numbers-are r j i (x .round) (x .from) (x .to) q) e)
+    go false e false q rest = rw q (rest (rw e at h))
+
+module _ (s : List ℕ) (n f : ℕ) (T : Told s n f) (kept : breach s n f ≡ 0) where
+  empty-log : isLog [] ≡ true
+  unfolding isLog fits
+  empty-log = refl
+
+  pub run-granted : Granted (hallOf s n f)
+  run-granted =
+      carried-granted n f (isFaulty s) (λ i. trayOf (entriesOfTray s i)) (λ r j i. messageFor s r j i) []
+      (record {
+        nodes = T .nodes;
+        above = T .above;
+        trays = λ i ci. of-is-sound (entriesOfTray s i) (T .trays i (ci .node));
+        entries = λ i ci. subst AreEntries (sym (of-entries (entriesOfTray s i))) (T .entries i (ci .node));
+        short = λ i j r ci fj b. omega (arith, T .short r j i);
+        bytes = λ i j r ci fj b. T .bytes r j i;
+      })
+      (T .few) empty-log (λ i j r ci fj b. message-keeps (hallOf s n f) (suc headerSize + n) (sendsOf s) (omega arith) kept r j i)
