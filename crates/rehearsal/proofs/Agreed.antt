@@ -1,28 +1,24 @@
 -- All printed logs are one log, and every printed line of signers is the correct nodes: a corollary of demand 3. The log of a rehearsal is never full, since the
 -- decisions have at most 256 entries.
-use Prim.Native.Nat.{ℕ, zero, suc, _+_, _*_, _≤_, _<_}
-use mathlib.Core.Path.{_≡_, refl, sym, ap, ap₂, subst, _∙_}
-use mathlib.Core.Logic.{_⊎_, inl, inr, ⊎-elim}
+use Prim.Native.Nat.{ℕ, zero, suc, _+_, _≤_, _<_}
+use mathlib.Core.Path.{_≡_, refl, sym, ap, subst, _∙_}
+use mathlib.Core.Logic.{inl, inr}
 use mathlib.Core.Bool.{Bool, true, false, not, cond}
-use mathlib.Core.List.{List, [], _∷_, _++_}
+use mathlib.Core.List.{List, [], _∷_}
 use native.Mathlib.Nat.{le-refl}
 use native.Mathlib.Omega.{arith}
 use borrow.Author.Tests.{le-leb}
 use lib.ListN.{length, length-append}
 use Rattle.laws.specs.Masks.{count, asBit}
 use Rattle.laws.specs.Members.{In}
-use Rattle.laws.proofs.Count.{count-not}
 use Rattle.rules.specs.Sizes.{logMost, fits, isLog}
 use Rattle.rules.specs.Refusals.{done}
 use Rattle.rules.specs.Step.{gather}
-use Rattle.rules.proofs.Inbox.{gather-same}
 use Rattle.rules.proofs.Logs.{some-correct}
-use Rattle.tray.specs.Trays.{entriesOf, trayOf}
 use Rattle.tray.proofs.Sound.{of-entries}
 use Rattle.node.specs.State.{soundNode}
 use Rattle.node.specs.declared.Node.{Node}
 use Rattle.closing.specs.Close.{newLogOf, closeNumber}
-use Rattle.closing.specs.Gather.{decidedMost}
 use Rattle.agreement.specs.Hall.{Hall, nodeAfter, closes, logOf}
 use Rattle.agreement.specs.Granted.{Correct, Granted}
 use Rattle.agreement.specs.Claim.{OneLog, Agreed}
@@ -34,12 +30,13 @@ use Rattle.schedule.specs.declared.Form.the-variants.{Good}
 use Rattle.contents.specs.Contents.{isFaulty, entriesOfTray}
 use Rattle.played.specs.Playing.{hallOf, breach}
 use Rattle.report.specs.Logs.{logOf as printedLog}
-use Rattle.report.specs.Signing.{nodesThat, signersAt}
-use Rattle.report.specs.Lines.{Line, linesText, sizesLines, nodeLines, allLines, reportLines}
+use Rattle.report.specs.Signing.{nodesThat}
+use Rattle.report.specs.Lines.{allLines}
 use Rattle.report.proofs.Made.{new-log-most, makes-log}
+use Rattle.report.proofs.OneLog.{many-correct, one-report}
 use Rattle.rehearsal.specs.Rehearsal.{playedText, formText}
-use Rattle.rehearsal.specs.Claim.{correctNodes, oneText, OneLog as Printed}
-use Rattle.rehearsal.proofs.Premises.{Told, run-granted}
+use Rattle.rehearsal.specs.Claim.{correctNodes, oneText, OneLog as Printed, RehearsalsAgree}
+use Rattle.rehearsal.proofs.Premises.{run-granted}
 
 -- as many are listed as pass the test
 listed-count : (t : ℕ → Bool) (n : ℕ) → length (nodesThat t n) ≡ count t n
@@ -51,12 +48,12 @@ listed-count t (suc n) = length-append (nodesThat t n) (cond (t n) (n ∷ []) []
     one true e = omega arith
     one false e = omega arith
 
-module _ (s : List ℕ) (n f : ℕ) (T : Told s n f) (kept : breach s n f ≡ 0) where
+module _ (s : List ℕ) (n f : ℕ) (good : formOf s ≡ Good n f) (kept : breach s n f ≡ 0) where
   abbrev hall : Hall
   hall = hallOf s n f
 
   abbrev G : Granted hall
-  G = run-granted s n f T kept
+  G = run-granted s n f good kept
 
   -- node i when its rounds are over
   abbrev last : ℕ → Node
@@ -91,44 +88,33 @@ module _ (s : List ℕ) (n f : ℕ) (T : Told s n f) (kept : breach s n f ≡ 0)
       let ci : Correct hall (c .0) = record { node = c .1 .node; fine = c .1 .fine } in
       absurd (let z = all-full (c .0) ci in let y = makes (c .0) ci in omega arith)
 
-  correct-enough : f + 1 ≤ length (correctNodes s n)
-  correct-enough = omega (arith, listed-count (λ (j : ℕ). not (isFaulty s j)) n, count-not (isFaulty s) n, T .few, T .above)
+  many : f + 1 ≤ count (λ (j : ℕ). not (isFaulty s j)) n
+  many = many-correct n f (isFaulty s) (G .few) (G .above)
 
   module _ (log : List ℕ) (one : OneLog hall log) where
     its-log : (i : ℕ) → i < n → isFaulty s i ≡ false → printedLog (last i) ≡ log
     its-log i l e = let ci : Correct hall i = record { node = l; fine = e } in printed i ci ∙ one .same i ci
 
-    abbrev logs : ℕ → List ℕ
-    logs i = printedLog (last i)
-
-    its-signers : (i : ℕ) → i < n → isFaulty s i ≡ false → signersAt n f (isFaulty s) logs i ≡ correctNodes s n
-    its-signers i l e = ?
-
-    line-is : (i : ℕ) → i < n
-        → cond (isFaulty s i) [] (nodeLines i (logs i) (signersAt n f (isFaulty s) logs i)) ≡ cond (isFaulty s i) [] (nodeLines i log (correctNodes s n))
-    line-is i l = go (isFaulty s i) refl
-      where
-        go : (b : Bool) → isFaulty s i ≡ b
-            → cond (isFaulty s i) [] (nodeLines i (logs i) (signersAt n f (isFaulty s) logs i)) ≡ cond (isFaulty s i) [] (nodeLines i log (correctNodes s n))
-        go true e = rw e refl
-        go false e = rw e (ap₂ (λ (x y : List ℕ). nodeLines i x y) (its-log i l e) (its-signers i l e))
-
     one-text : playedText s n f 0 ≡ oneText s n f log (correctNodes s n)
     unfolding playedText allLines
-    one-text = ap (λ (ls : List Line). linesText (sizesLines n f ++ ls)) (gather-same _ _ n line-is)
+    one-text =
+        one-report n f (isFaulty s) last log (λ i l e. unhindered hall G i (record { node = l; fine = e }) .numbers) many its-log
 
     all-in : (c e : ℕ) → c < n → isFaulty s c ≡ false → In e (entriesOfTray s c) → In e log
     all-in c e l h m = one .opened-in c e (record { node = l; fine = h }) (subst (In e) (sym (of-entries (entriesOfTray s c))) m)
 
-  pub one-log : formOf s ≡ Good n f → (log : List ℕ) × Printed s n f log
+  one-log : (log : List ℕ) × Printed s n f log
   unfolding formText
-  one-log e =
+  one-log =
       let one = one-of (agreed hall G) in
       (
         one .0,
         record {
-          prints = ap (formText s) e ∙ ap (playedText s n f) kept ∙ one-text (one .0) (one .1);
+          prints = ap (formText s) good ∙ ap (playedText s n f) kept ∙ one-text (one .0) (one .1);
           opened-in = all-in (one .0) (one .1);
-          enough = correct-enough;
+          enough = omega (arith, listed-count (λ (j : ℕ). not (isFaulty s j)) n, many);
         },
       )
+
+pub rehearsals-agree : RehearsalsAgree
+rehearsals-agree s n f good kept = one-log s n f good kept

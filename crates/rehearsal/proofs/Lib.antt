@@ -1,3 +1,2 @@
-pub mod ReportSame
 pub mod Premises
 pub mod Agreed

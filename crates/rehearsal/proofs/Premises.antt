@@ -1,18 +1,15 @@
 -- A schedule of good form that does not break the rule on shown votes is a run that demand 3 grants: its run is carried whole, and every message of a faulty
 -- node is one of its sends, or silence.
-use Prim.Native.Nat.{ℕ, zero, suc, _+_, _*_, _^_, _≤_, _<_}
-use mathlib.Core.Path.{_≡_, refl, sym, ap, subst, _∙_}
+use Prim.Native.Nat.{ℕ, suc, _+_, _<_}
+use mathlib.Core.Path.{_≡_, refl, sym, subst}
 use mathlib.Core.Bool.{Bool, true, false, cond}
 use mathlib.Core.List.{List, [], _∷_}
 use native.Mathlib.Omega.{arith}
 use borrow.Author.Tests.{eqb-true}
 use lib.Dec.{eqb}
-use lib.ListN.{length}
-use Rattle.laws.specs.Masks.{count}
 use Rattle.laws.proofs.Tests.{both}
-use Rattle.rules.specs.Sizes.{sized, isBatch, fits, isLog}
-use Rattle.entries.specs.Bytes.{AreBytes, AreEntries}
-use Rattle.wire.specs.Sizes.{messageMost}
+use Rattle.rules.specs.Sizes.{fits, isLog}
+use Rattle.entries.specs.Bytes.{AreEntries}
 use Rattle.wire.specs.Message.{votesAfter, votesOf}
 use Rattle.tray.specs.Trays.{trayOf}
 use Rattle.tray.proofs.Sound.{of-entries, of-is-sound}
@@ -25,17 +22,9 @@ use Rattle.schedule.specs.Sends.{Send}
 use Rattle.schedule.specs.Forms.{formOf}
 use Rattle.schedule.specs.declared.Form.the-variants.{Good}
 use Rattle.contents.specs.Contents.{isFaulty, entriesOfTray, sendsOf, messageFor, messageIn, numbered}
+use Rattle.contents.proofs.Good.{good-sizes, faulty-count, tray-batch, tray-entries}
+use Rattle.contents.proofs.Found.{message-bytes, message-size}
 use Rattle.played.specs.Playing.{hallOf, breachFrom, breach}
-
--- what the form tells of a schedule
-pub record Told (s : List ℕ) (n f : ℕ) : Type 0 where
-  pub nodes : sized n ≡ true
-  pub above : 2 * f < n
-  pub few : count (isFaulty s) n ≤ f
-  pub trays : (i : ℕ) → i < n → isBatch (entriesOfTray s i) ≡ true
-  pub entries : (i : ℕ) → i < n → AreEntries (entriesOfTray s i)
-  pub short : (r j i : ℕ) → length (messageFor s r j i) ≤ messageMost
-  pub bytes : (r j i : ℕ) → AreBytes (messageFor s r j i)
 
 -- silence shows nothing
 silence-keeps : (hall : Hall) (r : ℕ) → breaksRule hall r [] ≡ false
@@ -61,20 +50,21 @@ message-keeps hall k (x ∷ xs) l h r j i =
     go false e true q rest = rw q (subst (λ (y : ℕ). breaksRule hall y (x .message) ≡ false) (numbers-are r j i (x .round) (x .from) (x .to) q) e)
     go false e false q rest = rw q (rest (rw e at h))
 
-module _ (s : List ℕ) (n f : ℕ) (T : Told s n f) (kept : breach s n f ≡ 0) where
+module _ (s : List ℕ) (n f : ℕ) (good : formOf s ≡ Good n f) where
   empty-log : isLog [] ≡ true
   unfolding isLog fits
   empty-log = refl
 
-  pub run-granted : Granted (hallOf s n f)
-  run-granted =
+  pub run-granted : breach s n f ≡ 0 → Granted (hallOf s n f)
+  run-granted kept =
       carried-granted n f (isFaulty s) (λ i. trayOf (entriesOfTray s i)) (λ r j i. messageFor s r j i) []
       (record {
-        nodes = T .nodes;
-        above = T .above;
-        trays = λ i ci. of-is-sound (entriesOfTray s i) (T .trays i (ci .node));
-        entries = λ i ci. subst AreEntries (sym (of-entries (entriesOfTray s i))) (T .entries i (ci .node));
-        short = λ i j r ci fj b. omega (arith, T .short r j i);
-        bytes = λ i j r ci fj b. T .bytes r j i;
+        nodes = good-sizes s n f good .0;
+        above = good-sizes s n f good .1;
+        trays = λ i ci. of-is-sound (entriesOfTray s i) (tray-batch s i);
+        entries = λ i ci. subst AreEntries (sym (of-entries (entriesOfTray s i))) (tray-entries s i);
+        short = λ i j r ci fj b. omega (arith, message-size s n f r j i good);
+        bytes = λ i j r ci fj b. message-bytes s r j i;
       })
-      (T .few) empty-log (λ i j r ci fj b. message-keeps (hallOf s n f) (suc headerSize + n) (sendsOf s) (omega arith) kept r j i)
+      (faulty-count s n f good) empty-log
+      (λ i j r ci fj b. message-keeps (hallOf s n f) (suc headerSize + n) (sendsOf s) (omega arith) kept r j i)
