@@ -4,10 +4,7 @@ use Prim.Native.Nat.{ℕ, zero, suc, _+_}
 use mathlib.Core.Bool.{Bool, false, _&&_, cond}
 use mathlib.Core.List.{List, [], _∷_}
 use lib.Dec.{eqb}
-use lib.ListN.{replicate}
-use Rattle.rules.specs.Sizes.{nodesMost}
 use Rattle.tray.specs.Trays.{trayOf}
-use Rattle.node.specs.declared.Node.{Node}
 use Rattle.agreement.specs.Hall.{Hall}
 use Rattle.agreement.specs.Carried.{carriedHall}
 use Rattle.agreement.specs.Rule.{breaksRule}
@@ -17,7 +14,7 @@ use Rattle.schedule.specs.Forms.{formOf}
 use Rattle.schedule.specs.declared.Form.{Form}
 use Rattle.schedule.specs.declared.Form.the-variants.{Good, Bad}
 use Rattle.contents.specs.Contents.{isFaulty, entriesOfTray, sendsOf, messageFor}
-use Rattle.played.specs.Standing.{nobody, standing}
+use Rattle.played.specs.Standing.{noNodes, standing}
 use Rattle.played.specs.declared.Played.{Played}
 
 -- the run of a schedule: every outbox is carried whole, and what faulty nodes send is its sends; "Old logs are empty."
@@ -37,9 +34,6 @@ breach s n f = breachFrom (hallOf s n f) (suc headerSize + n) (sendsOf s)
 unfoldable pub goodAs : (n f : ℕ) → Form → Bool
 goodAs n f (Good m g) = eqb m n && eqb g f
 goodAs n f (Bad k) = false
-
-abbrev pub noNodes : List Node
-noNodes = replicate nodesMost nobody
 
 -- the nodes after round f + 1, which is before round f + 2; none where a line is bad
 unfoldable pub playedTo : (hall : Hall) (bad : ℕ) → Played
