@@ -97,12 +97,16 @@ lines-turn s at i e ee h =
 pub len-fits : (s : List ℕ) (at e : ℕ) → at ≤ length s → e ≡ lineLen (take (length s - at) (drop at s)) → at + e ≤ length s
 len-fits s at e h ee = omega (arith, ee ∙ ap lineLen (rest-of s at), len-le (drop at s), length-drop at s)
 
--- past the end there are no lines
+-- nor are there any before a later line
 pub lines-over : (s : List ℕ) (at i k : ℕ) → length s ≤ at → i ≤ k → linesOf (drop at s) ≡ drop i (linesOf s) → linesOf (drop at s) ≡ drop k (linesOf s)
 lines-over s at i k h l e =
     let n : linesOf (drop at s) ≡ [] = lines-none (drop at s) (omega (arith, length-drop at s)) in
     let m : length (linesOf s) ≤ i = omega (arith, ap length (sym e ∙ n), length-drop i (linesOf s)) in
     n ∙ sym (drop-of-length-le (linesOf s) {i = k} (omega arith))
+
+-- past the end there are no lines
+pub lines-past : (s : List ℕ) (at : ℕ) → length s ≤ at → linesOf (drop at s) ≡ []
+lines-past s at h = lines-none (drop at s) (omega (arith, length-drop at s))
 
 -- a loop over the lines of a text, which stands at `at`: the line there, and the lines after it
 module _ (s line : List ℕ) (at : ℕ) (within : at ≤ length s) (e : line ≡ getD (linesOf (take (length s - at) (drop at s))) 0 []) where
@@ -127,5 +131,14 @@ module _ (s line : List ℕ) (at : ℕ) (within : at ≤ length s) (e : line ≡
       lines-more (drop at s) (omega (arith, length-drop at s))
       ∙ ap₂ (λ (l : List ℕ) (ls : List (List ℕ)). l ∷ ls) (sym line-here) lines-after
 
-pub lines-past : (s : List ℕ) (at : ℕ) → length s ≤ at → linesOf (drop at s) ≡ []
-lines-past s at h = lines-none (drop at s) (omega (arith, length-drop at s))
+  -- whether it is the last one
+  pub line-last : length (take (length s - at) (drop at s)) ≡ length line → length (linesOf (drop (at + length line) s)) ≡ 0
+  line-last h = ap length (lines-past s (at + length line) (omega (arith, ap length (rest-of s at), length-drop at s)))
+
+  pub line-not-last : (length (take (length s - at) (drop at s)) ≡ length line → ⊥) → length (linesOf (drop (at + length line) s)) ≡ 0 → ⊥
+  line-not-last h z =
+      let rest : List ℕ = drop (at + length line) s in
+      let l = ap length (rest-of s at) in
+      let f = line-fits in
+      let some : 0 < length (drop (at + length line) s) = omega (arith, l, f, length-drop at s, length-drop (at + length line) s) in
+      omega (arith, z, ap length (lines-more (drop (at + length line) s) some))

@@ -3,5 +3,6 @@ pub mod Digits
 pub mod Cuts
 pub mod Commas
 pub mod Keys
+pub mod Handed
 pub mod Pairs
 pub mod Written
