@@ -1,12 +1,14 @@
 -- Demand 3: the run over votes agrees, and what each correct node's calls answer is what that run says. Slots in bytes are slots as the rules count them.
 use Prim.Native.Nat.{ℕ}
-use mathlib.Core.Path.{sym, _∙_}
+use mathlib.Core.Path.{_≡_, sym, _∙_}
 use mathlib.Core.Logic.{inl, inr}
 use mathlib.Core.List.{List}
 use borrow.Author.Tests.{leb-true}
 use Rattle.rules.specs.Refusals.{done}
 use Rattle.rules.specs.Signers.{Mark, signersOf, enough}
 use Rattle.rules.specs.Sizes.{sizes}
+use Rattle.rules.specs.Log.{made}
+use Rattle.rules.specs.Run.{newLog}
 use Rattle.rules.specs.Premises.{Correct as CorrectOver, Marked as MarkedOver, Counting as CountingOver, Signing as SigningOver}
 use Rattle.rules.specs.Claim.{Agreed as AgreedOver}
 use Rattle.rules.proofs.Refusals.{row-passed}
@@ -14,7 +16,7 @@ use Rattle.rules.proofs.Logs.{one-log}
 use Rattle.rules.proofs.Signed.{demand-3 as over-votes}
 use Rattle.signing.specs.Slots.{areSlots, slotOf}
 use Rattle.signing.specs.Count.{signersNumber}
-use Rattle.agreement.specs.Hall.{Hall, logOf}
+use Rattle.agreement.specs.Hall.{Hall, closes, logOf}
 use Rattle.agreement.specs.Granted.{Correct, Granted, Marked, Counting, Signing}
 use Rattle.agreement.specs.Claim.{Agreed, Signed, Demand3}
 use Rattle.agreement.proofs.Follows.{overVotes}
@@ -30,12 +32,19 @@ module _ (hall : Hall) (G : Granted hall) where
   abbrev back : {i : ℕ} → CorrectOver (overVotes hall) i → Correct hall i
   back ci = record { node = ci .node; fine = ci .fine }
 
+  -- a correct node's close and what the rules make: each tells the other
+  by-rules : (i : ℕ) → Correct hall i → (log : List ℕ) → newLog (overVotes hall) i ≡ made log → (closes hall i ≡ done) × (logOf hall i ≡ log)
+  by-rules i ci = made-closes hall i (unhindered hall G i ci) (G .well-formed)
+
+  by-close : (i : ℕ) → Correct hall i → closes hall i ≡ done → newLog (overVotes hall) i ≡ made (logOf hall i)
+  by-close i ci = closes-made hall i (unhindered hall G i ci) (G .well-formed)
+
   same-answer : AgreedOver (overVotes hall) → Agreed hall
   same-answer (inl (log, one)) = inl (
     log,
     record {
-      makes = λ i ci. made-closes hall i (unhindered hall G i ci) (G .well-formed) log (one .makes i (over ci)) .0;
-      same = λ i ci. made-closes hall i (unhindered hall G i ci) (G .well-formed) log (one .makes i (over ci)) .1;
+      makes = λ i ci. by-rules i ci log (one .makes i (over ci)) .0;
+      same = λ i ci. by-rules i ci log (one .makes i (over ci)) .1;
       well-formed = one .well-formed;
       old-in = one .old-in;
       opened-in = λ c e cc. one .opened-in c e (over cc);
@@ -50,10 +59,10 @@ module _ (hall : Hall) (G : Granted hall) where
 
   module _ (mark : ℕ → Mark) where
     marked : (j : ℕ) (m : Mark) → Correct hall j → Marked hall mark j m → MarkedOver (overVotes hall) mark j m
-    marked j m cj t = record { log = logOf hall j; makes = closes-made hall j (unhindered hall G j cj) (G .well-formed) (t .makes); its = t .its }
+    marked j m cj t = record { log = logOf hall j; makes = by-close j cj (t .makes); its = t .its }
 
     back-marked : (j : ℕ) (m : Mark) → Correct hall j → MarkedOver (overVotes hall) mark j m → Marked hall mark j m
-    back-marked j m cj t = record { makes = made-closes hall j (unhindered hall G j cj) (G .well-formed) (t .log) (t .makes) .0; its = t .its }
+    back-marked j m cj t = record { makes = by-rules j cj (t .log) (t .makes) .0; its = t .its }
 
     counting : (k : ℕ) (m : Mark) (slots : List ℕ) → Counting hall mark k m slots → CountingOver (overVotes hall) mark k m (slotOf slots)
     counting k m slots c = record {
@@ -65,10 +74,10 @@ module _ (hall : Hall) (G : Granted hall) where
     signing slots S = record {
       majority = G .above;
       alike = λ i j log ci cj mi mj.
-          let a = made-closes hall i (unhindered hall G i (back ci)) (G .well-formed) log mi in
-          let b = made-closes hall j (unhindered hall G j (back cj)) (G .well-formed) log mj in
+          let a = by-rules i (back ci) log mi in
+          let b = by-rules j (back cj) log mj in
           S .alike i j (back ci) (back cj) (a .0) (b .0) (a .1 ∙ sym (b .1));
-      reaches = λ i j log ci cj ne mj. S .reaches i j (back ci) (back cj) ne (made-closes hall j (unhindered hall G j (back cj)) (G .well-formed) log mj .0);
+      reaches = λ i j log ci cj ne mj. S .reaches i j (back ci) (back cj) ne (by-rules j (back cj) log mj .0);
     }
 
     pub signed : (slots : ℕ → List ℕ) → Signing hall mark slots → Signed hall mark slots
@@ -77,7 +86,7 @@ module _ (hall : Hall) (G : Granted hall) where
         let over-signed = over-votes (overVotes hall) (granted hall G) .1 mark (λ i. slotOf (slots i)) (signing slots S) in
         record {
           finds = λ i ci d.
-              let e = over-signed .finds i (logOf hall i) (over ci) (closes-made hall i (unhindered hall G i ci) (G .well-formed) d) in
+              let e = over-signed .finds i (logOf hall i) (over ci) (by-close i ci d) in
               record { counts = simp (unhindered hall G i ci .numbers, S .cut i ci, e); enough = leb-true _ _ e };
           no-other = λ k m handed c d i ci.
               let a = row-passed 0 (sizes (hall .n) (hall .f) k) _ d in

@@ -1,0 +1,127 @@
+-- A schedule is a run that demand 3 grants where its sizes hold, its trays are sound, its messages are bytes and short, and its lines keep the rule on shown
+-- votes: a message to a correct node is that of a line, or silence. All of it is tested, so that it can be computed.
+use Prim.Native.Nat.{ℕ, zero, suc, _*_, _^_, _<_}
+use mathlib.Core.Path.{_≡_, refl, ap, _∙_}
+use mathlib.Core.Bool.{Bool, true, false, not, _&&_}
+use mathlib.Core.List.{List, [], _∷_, map}
+use native.Mathlib.Omega.{arith}
+use borrow.Author.Tests.{leb-true, leb-false, ltb-true, eqb-true, not-true}
+use lib.Dec.{eqb, ltb, leb, lit<}
+use lib.ListN.{length, getD}
+use Rattle.laws.specs.Masks.{count, every}
+use Rattle.laws.specs.Members.{any, holds}
+use Rattle.laws.proofs.Tests.{both, neither}
+use Rattle.laws.proofs.Every.{every-each}
+use Rattle.rules.specs.Sizes.{sized, fits, isLog}
+use Rattle.entries.specs.Bytes.{AreBytes}
+use Rattle.wire.specs.Sizes.{lengthSize}
+use Rattle.wire.specs.Message.{votesAfter, votesOf}
+use Rattle.tray.specs.Trays.{entriesOf, soundTray, trayOf}
+use Rattle.tray.specs.declared.Tray.{Tray}
+use Rattle.agreement.specs.Hall.{Hall}
+use Rattle.agreement.specs.Granted.{Granted}
+use Rattle.agreement.specs.Rule.{breaksRule}
+use Rattle.agreement.proofs.Carried.{carried-granted}
+use Rattle.runs.specs.Schedule.{Send, Schedule, given, hallOf, breaks}
+
+-- none reaches m
+abbrev below : ℕ → List ℕ → Bool
+below m xs = not (any (λ x. leb m x) xs)
+
+below-at : (m : ℕ) (xs : List ℕ) → 0 < m → any (λ x. leb m x) xs ≡ false → (i : ℕ) → getD xs i 0 < m
+below-at m [] z h i = z
+below-at m (x ∷ xs) z h zero = leb-false m x (neither (leb m x) (any (λ y. leb m y) xs) h .0)
+below-at m (x ∷ xs) z h (suc i) = below-at m xs z (neither (leb m x) (any (λ y. leb m y) xs) h .1) i
+
+-- ---- the messages of the lines
+
+-- bytes, and short enough for two length bytes
+abbrev fine : List ℕ → Bool
+fine m = below (2 ^ 8) m && ltb (length m) (2 ^ (8 * lengthSize))
+
+pub record Fine (m : List ℕ) : Type 0 where
+  pub short : length m < 2 ^ (8 * lengthSize)
+  pub bytes : AreBytes m
+
+is-fine : (m : List ℕ) → fine m ≡ true → Fine m
+is-fine m h =
+    let p = both (below (2 ^ 8) m) (ltb (length m) (2 ^ (8 * lengthSize))) h in
+    record { short = ltb-true (length m) (2 ^ (8 * lengthSize)) (p .1); bytes = below-at (2 ^ 8) m (omega arith) (not-true _ (p .0)) }
+
+abbrev allFine : List Send → Bool
+allFine [] = true
+allFine (x ∷ xs) = fine (x .message) && allFine xs
+
+given-fine : (lines : List Send) → allFine lines ≡ true → (r j i : ℕ) → Fine (given lines r j i)
+given-fine [] h r j i = record { short = omega arith; bytes = λ k. lit< tt }
+given-fine (x ∷ xs) h r j i = go (eqb r (x .round) && (eqb j (x .from) && eqb i (x .to))) refl (given-fine xs (p .1) r j i)
+  where
+    p : (fine (x .message) ≡ true) × (allFine xs ≡ true)
+    p = both (fine (x .message)) (allFine xs) h
+
+    go : (b : Bool) → (eqb r (x .round) && (eqb j (x .from) && eqb i (x .to))) ≡ b → Fine (given xs r j i) → Fine (given (x ∷ xs) r j i)
+    go true e more = rw e (is-fine (x .message) (p .0))
+    go false e more = rw e more
+
+-- ---- the rule on shown votes
+
+abbrev none : List Bool → Bool
+none [] = true
+none (b ∷ bs) = not b && none bs
+
+module _ (hall : Hall) where
+  abbrev broken : List Send → List Bool
+  broken lines = map (λ (x : Send). breaksRule hall (x .round) (x .message)) lines
+
+  silence-keeps : (r : ℕ) → breaksRule hall r [] ≡ false
+  unfolding breaksRule votesOf votesAfter
+  silence-keeps r = refl
+
+  given-keeps : (lines : List Send) → none (broken lines) ≡ true → (r j i : ℕ) → breaksRule hall r (given lines r j i) ≡ false
+  given-keeps [] h r j i = silence-keeps r
+  given-keeps (x ∷ xs) h r j i = go (eqb r (x .round) && (eqb j (x .from) && eqb i (x .to))) refl (given-keeps xs (p .1) r j i)
+    where
+      p : (not (breaksRule hall (x .round) (x .message)) ≡ true) × (none (broken xs) ≡ true)
+      p = both (not (breaksRule hall (x .round) (x .message))) (none (broken xs)) h
+
+      go : (b : Bool) → (eqb r (x .round) && (eqb j (x .from) && eqb i (x .to))) ≡ b → breaksRule hall r (given xs r j i) ≡ false
+          → breaksRule hall r (given (x ∷ xs) r j i) ≡ false
+      go true e more =
+          let q = eqb-true r (x .round) (both (eqb r (x .round)) (eqb j (x .from) && eqb i (x .to)) e .0) in
+          rw e (ap (λ (k : ℕ). breaksRule hall k (x .message)) q ∙ not-true _ (p .0))
+      go false e more = rw e more
+
+-- ---- the whole schedule
+
+module _ (s : Schedule) where
+  abbrev faulty : ℕ → Bool
+  faulty j = holds j (s .faulty)
+
+  abbrev tray : ℕ → Tray
+  tray i = trayOf (getD (s .trays) i [])
+
+  pub record Tested : Type 0 where
+    pub nodes : sized (s .n) ≡ true
+    pub above : ltb (2 * s .f) (s .n) ≡ true
+    pub few : leb (count faulty (s .n)) (s .f) ≡ true
+    pub trays : every (λ i. soundTray (tray i)) (s .n) ≡ true
+    pub entries : every (λ i. below (2 ^ 64) (entriesOf (tray i))) (s .n) ≡ true
+    pub messages : allFine (s .sends) ≡ true
+    pub rule : none (breaks s) ≡ true
+
+  pub schedule-granted : Tested → Granted (hallOf s)
+  unfolding isLog fits
+  schedule-granted t =
+      carried-granted (s .n) (s .f) faulty tray (given (s .sends)) []
+      (record {
+        nodes = t .nodes;
+        above = ltb-true _ _ (t .above);
+        trays = λ i c. every-each (λ j. soundTray (tray j)) (s .n) (t .trays) i (c .node);
+        entries = λ i c.
+            below-at (2 ^ 64) (entriesOf (tray i)) (omega arith) (not-true _ (every-each (λ j. below (2 ^ 64) (entriesOf (tray j))) (s .n) (t .entries) i (c .node)));
+        short = λ i j r c d b. given-fine (s .sends) (t .messages) r j i .short;
+        bytes = λ i j r c d b. given-fine (s .sends) (t .messages) r j i .bytes;
+      })
+      (leb-true _ _ (t .few))
+      refl
+      (λ i j r c d b. given-keeps (hallOf s) (s .sends) (t .rule) r j i)

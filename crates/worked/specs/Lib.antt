@@ -1,0 +1,4 @@
+pub mod Test
+pub mod Halls
+pub mod Tests
+pub mod Claim
