@@ -41,7 +41,7 @@ one-slot [] y m k l q e = absurd (omega arith)
 one-slot (a ∷ []) y m k l q e = absurd (omega arith)
 one-slot (a ∷ b ∷ o) y m k l q e =
     let all : take (length (a ∷ b ∷ o) - lengthSize) o ≡ o = take-all (length (a ∷ b ∷ o) - lengthSize) o (omega arith) in
-    let none-more : drop (length (a ∷ b ∷ o) - lengthSize) o ≡ [] = drop-of-length-le o (omega arith) in
+    let none-more : drop (length (a ∷ b ∷ o) - lengthSize) o ≡ [] = drop-of-length-le o {i = length (a ∷ b ∷ o) - lengthSize} (omega arith) in
     let its : y ++ drop (length (a ∷ b ∷ o) - lengthSize) o ≡ m ++ drop (length m) o =
     ap (λ (t : List ℕ). y ++ t) none-more ∙ append-nil y ∙ e ∙ ap (onto m) all in
     let same : m ++ drop (length m) o ≡ (m ++ []) ++ drop (length (m ++ [])) o = ap (λ (t : List ℕ). t ++ drop (length t) o) (sym (append-nil m)) in

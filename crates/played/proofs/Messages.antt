@@ -43,8 +43,10 @@ module _ (s : List ℕ) (faulty r i j : ℕ) (o : Outbox) where
   pub is-put : (w out after : List ℕ) (a : ℕ) → m ≡ w → (a ≡ length w) × (after ≡ onto w out) → (a ≡ length m) × (after ≡ onto m out)
   is-put w out after a e p = subst (λ (x : List ℕ). (a ≡ length x) × (after ≡ onto x out)) (sym e) p
 
--- a message that was put is read whole
+-- what was put over the front is read back whole
+pub front-read : (w z after : List ℕ) (a : ℕ) → a ≡ length w → after ≡ onto w z → (a ≤ length after) × (take a after ≡ w)
+front-read w z after a e f =
+    (omega (arith, e, ap length f, length-append w (drop (length w) z)), ap₂ take e f ∙ take-at w (drop (length w) z) (length w) refl)
+
 pub put-whole : (w z after : List ℕ) (a : ℕ) → length w ≤ length z → Put w z a after → (a ≤ length after) × (take a after ≡ w)
-put-whole w z after a h p =
-    let t = put-written w z after a h p in
-    (omega (arith, t .0, ap length (t .1), length-append w (drop (length w) z)), ap₂ take (t .0) (t .1) ∙ take-at w (drop (length w) z) (length w) refl)
+put-whole w z after a h p = let t = put-written w z after a h p in front-read w z after a (t .0) (t .1)

@@ -12,7 +12,7 @@ use Rattle.played.proofs.inboxes.copy.Statement.{statement}
 use Rattle.played.proofs.inboxes.copy.Tie as tie
 
 abbrev Inv-loop : tie.InvT-loop
-Inv-loop bytes size output₀ all i₀ output i = ?
+Inv-loop bytes size output₀ all i₀ output i = (i ≤ size) × (length output ≡ length output₀) × (output ≡ take i bytes ++ drop i output₀)
 
 abbrev μ-loop : tie.MeasureT-loop
 μ-loop bytes size output₀ all i₀ output i = size - i
@@ -33,7 +33,9 @@ loop-less : tie.Need-loop-less Inv-loop μ-loop
 loop-less c = search needs
 
 loop-again : tie.Need-loop-again Inv-loop μ-loop
-loop-again c = search needs
+loop-again c =
+    let l = c .before .before .loop in
+    (omega arith, length-set (l .output) (l .i) _ ∙ l .inv .1, one-copied _ (l .output) _ (l .i) (omega arith) (omega arith) (l .inv .2))
 
 same-length : tie.Need-same-length Inv-loop μ-loop
 same-length c = c .before .loop .inv .1

@@ -1,38 +1,47 @@
+-- The inbox is read whole, and the step is the one of the node's course.
+use Prim.Native.Nat.{_≤_}
+use mathlib.Core.Path.{_≡_, sym, subst}
+use mathlib.Core.List.{List}
+use denote.Ref.{now}
+use lib.ListN.{length, take}
+use lib.Seq.{length-take-le}
+use Prim.Native.Nat.{ℕ}
+use Rattle.step.specs.Step.{Step}
+use Rattle.played.specs.Inboxes.{inboxTo}
+use Rattle.played.proofs.Messages.{front-read}
+use Rattle.played.proofs.Stands.{stepped-stands}
 use borrow.Author.Needs.{needs}
 use Rattle.played.proofs.rounds.step_node.Statement.{statement}
 use Rattle.played.proofs.rounds.step_node.Tie as tie
-use Rattle.played.proofs.rounds.step_node.Reads as reads
-use Rattle.played.proofs.rounds.step_node.Lts as lts
-use Rattle.played.proofs.inboxes.put_inbox.Reads as put-inbox-reads
-use Rattle.step.proofs.step.Reads as step-reads
 
--- src/rounds.rt:86:56
+-- what the buffer holds
+read : (c : tie.After-put-inbox) → let a = c .before .before .before .args in let after = c .put-inbox .last .1 .1 .1 .1 .1 .1 .0 in
+    (c .put-inbox .result ≤ length after) × (take (c .put-inbox .result) after ≡ inboxTo (now (a .s)) (a .n) (a .faulty) (a .r) (a .i) (a .outboxes))
+read c = front-read _ _ _ _ (c .put-inbox .ensures .0) (c .put-inbox .ensures .1)
+
 slice-aggregate-put-inbox : tie.Need-slice-aggregate-put-inbox
 slice-aggregate-put-inbox c = search needs
 
--- src/rounds.rt:86:9
 put-inbox-requires : tie.Need-put-inbox-requires
 put-inbox-requires c κs = search needs
 
--- src/rounds.rt:88:36
 array-share-prefix-inbox : tie.Need-array-share-prefix-inbox
-array-share-prefix-inbox c = search needs
+array-share-prefix-inbox c = read (c .before) .0
 
--- src/rounds.rt:88:36
 slice-aggregate-step : tie.Need-slice-aggregate-step
-slice-aggregate-step c = search needs
+slice-aggregate-step c = sym (length-take-le _ _ (read (c .before .before) .0))
 
--- src/rounds.rt:88:52
 slice-aggregate-step-2 : tie.Need-slice-aggregate-step-2
 slice-aggregate-step-2 c = search needs
 
--- src/rounds.rt:88:9
 step-requires : tie.Need-step-requires
 step-requires c κs = search needs
 
--- src/rounds.rt:73:1
 returns : tie.Need-returns
-returns c = search needs
+returns c =
+    let a = c .before .before .before .before .before .before .before .before .before .args in
+    let inbox = inboxTo (now (a .s)) (a .n) (a .faulty) (a .r) (a .i) (a .outboxes) in
+    stepped-stands (a .node) inbox (c .before .before .step .result) _ (subst (λ (x : List ℕ). Step (a .node) x _ (c .before .before .step .result) _) (read (c .before .before .before .before .before .before) .1) (c .before .before .step .ensures))
 
 pub step-node-spec : {M : Type 1} → statement M
 step-node-spec =
