@@ -1,10 +1,6 @@
 -- What the text of the message says in hex is the message.
-use Prim.Native.Nat.{ℕ}
-use mathlib.Core.List.{List}
-use mathlib.Core.Path.{subst}
-use denote.Ref.{now}
 use borrow.Author.Needs.{needs}
-use Rattle.text.specs.Put.{Put}
+use Rattle.text.proofs.Written.{put-equal}
 use Rattle.contents.proofs.message_into.Statement.{statement}
 use Rattle.contents.proofs.message_into.Tie as tie
 
@@ -18,9 +14,7 @@ same-length : tie.Need-same-length
 same-length c = search needs
 
 returns : tie.Need-returns
-returns c =
-    let a = c .before .before .before .before .before .before .before .args in
-    subst (λ (w : List ℕ). Put w (now (a .output)) _ _) (c .before .before .before .before .message-text .ensures) (c .before .before .hex-into .ensures)
+returns c = put-equal _ _ _ _ _ (c .before .before .before .before .message-text .ensures) (c .before .before .hex-into .ensures)
 
 pub message-into-spec : {M : Type 1} → statement M
 message-into-spec =
