@@ -144,7 +144,7 @@ held s n f e = go (leb (length s) scheduleMost) e
         let t = trays-told h (headerSize + 1) (h .n) (drop headerSize (linesOf s)) n f q in
         let w = sends-told h (t .0) 0 (drop (h .n) (drop headerSize (linesOf s))) n f (t .1) in
         let p : drop (h .n) (drop headerSize (linesOf s)) ≡ drop (headerSize + headerOf s .n) (linesOf s) =
-            drop-drop (h .n) headerSize (linesOf s) ∙ ap (λ (x : Header). drop (headerSize + x .n) (linesOf s)) (sym (header-is s h r)) in
+        drop-drop (h .n) headerSize (linesOf s) ∙ ap (λ (x : Header). drop (headerSize + x .n) (linesOf s)) (sym (header-is s h r)) in
         record { header = h; read = r; whole = header-told (linesOf s) h r; sends = subst (λ (ls : List (List ℕ)). Sends h 0 (sendsIn ls) n f) p w }
 
     go : (t : Bool) → cond t (formAfter (headedOf (linesOf s)) (drop headerSize (linesOf s))) (Bad 0) ≡ Good n f → Held s n f

@@ -17,12 +17,19 @@ use Rattle.schedule.specs.Sends.{Send}
 use Rattle.schedule.specs.Forms.{formOf}
 use Rattle.schedule.specs.declared.Form.{Form}
 use Rattle.schedule.specs.declared.Form.the-variants.{Good, Bad}
-use Rattle.contents.specs.Contents.{sendsOf}
+use Rattle.schedule.specs.declared.Sending.the-variants.{Sent}
+use Rattle.contents.specs.Contents.{isFaulty, sendsOf, sendingAt, messageFor}
+use Rattle.shown.specs.Shown.{breaks}
+use Rattle.laws.specs.Masks.{maskOf}
+use Rattle.rules.specs.Sizes.{nodesMost}
 use Rattle.played.specs.Standing.{noNodes, standing}
 use Rattle.played.specs.Playing.{hallOf, breachFrom, breach, goodAs, playedTo, playedOf}
 use Rattle.played.specs.declared.Played.{Played}
 use Rattle.played.specs.declared.Standing.{Standing}
 use Rattle.played.proofs.Forms.{sendAt}
+use Rattle.played.proofs.Sends.{sent-numbers}
+use Rattle.played.proofs.Standings.{header-nodes, send-fits, send-last, send-message}
+use Rattle.played.proofs.Ruled.{rule-by-states}
 
 module _ (s : List ℕ) (n f : ℕ) where
   abbrev hall : Hall
@@ -30,19 +37,19 @@ module _ (s : List ℕ) (n f : ℕ) where
 
   -- of the sends from the k-th on
   abbrev pub left : ℕ → ℕ
-  left k = breachFrom hall (suc headerSize + n + k) (drop k (sendsOf s))
+  left k = breachFrom hall (headerSize + 1 + n + k) (drop k (sendsOf s))
 
-  pub at-first : breach s n f ≡ left 0
-  at-first = ap (λ (k : ℕ). breachFrom hall k (sendsOf s)) (omega arith)
+  pub at-first : formOf s ≡ Good n f → breach s n f ≡ left 0
+  at-first form = ap (λ (m : ℕ). breachFrom hall (headerSize + 1 + m + 0) (sendsOf s)) (header-nodes s n f form)
 
   module _ (k : ℕ) (h : k < length (sendsOf s)) (t : Bool) (e : t ≡ breaksRule hall (sendAt (sendsOf s) k .round) (sendAt (sendsOf s) k .message)) where
-    next : left k ≡ cond t (suc headerSize + n + k) (breachFrom hall (suc (suc headerSize + n + k)) (drop (suc k) (sendsOf s)))
+    next : left k ≡ cond t (headerSize + 1 + n + k) (breachFrom hall (headerSize + 1 + n + k + 1) (drop (suc k) (sendsOf s)))
     unfolding breachFrom
     next =
-        ap (breachFrom hall (suc headerSize + n + k)) (drop-cons (sendsOf s) k _ h)
-        ∙ ap (λ (b : Bool). cond b (suc headerSize + n + k) (breachFrom hall (suc (suc headerSize + n + k)) (drop (suc k) (sendsOf s)))) (sym e)
+        ap (breachFrom hall (headerSize + 1 + n + k)) (drop-cons (sendsOf s) k _ h)
+        ∙ ap (λ (b : Bool). cond b (headerSize + 1 + n + k) (breachFrom hall (headerSize + 1 + n + k + 1) (drop (suc k) (sendsOf s)))) (sym e)
 
-    pub breaks-here : t ≡ true → left k ≡ suc headerSize + n + k
+    pub breaks-here : t ≡ true → left k ≡ headerSize + 1 + n + k
     breaks-here q = next ∙ simp q
 
     pub breaks-later : t ≡ false → left k ≡ left (k + 1)
@@ -51,7 +58,20 @@ module _ (s : List ℕ) (n f : ℕ) where
 
   pub none-left : (k : ℕ) → length (sendsOf s) ≤ k → left k ≡ 0
   unfolding breachFrom
-  none-left k l = ap (breachFrom hall (suc headerSize + n + k)) (drop-of-length-le (sendsOf s) {i = k} l)
+  none-left k l = ap (breachFrom hall (headerSize + 1 + n + k)) (drop-of-length-le (sendsOf s) {i = k} l)
+
+  -- the answer of the rule by states is the rule's
+  pub rule-told : (form : formOf s ≡ Good n f) (faulty : ℕ) → faulty ≡ maskOf (isFaulty s) nodesMost → (k : ℕ) → k < length (sendsOf s) → (r i j : ℕ)
+      → Sent r i j ≡ sendingAt (sendsOf s) k → (here : Standing) → here ≡ standing hall r → (t : Bool) → t ≡ breaks n faulty (here .nodes) (messageFor s r i j)
+      → t ≡ breaksRule hall (sendAt (sendsOf s) k .round) (sendAt (sendsOf s) k .message)
+  rule-told form faulty mask k l r i j e here stands t told =
+      let q = sent-numbers (sendsOf s) k r i j l e in
+      let x = sendAt (sendsOf s) k in
+      let fit = send-fits s n f form k l in
+      let m : messageFor s r i j ≡ x .message =
+      ap (λ (a : ℕ). messageFor s a i j) (q .0) ∙ ap₂ (λ (a b : ℕ). messageFor s (x .round) a b) (q .1) (q .2) ∙ send-message s n f form k l in
+      told ∙ ap (breaks n faulty (here .nodes)) m
+      ∙ rule-by-states s n f form faulty mask here (x .round) (stands ∙ ap (standing hall) (q .0)) (fit .first) (send-last s n f form k l) (x .message)
 
   -- ---- what is answered
 

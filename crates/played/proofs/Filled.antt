@@ -16,9 +16,6 @@ module _ {A : Type 0} (d : A) (g : ℕ → A) where
   abbrev pub Filled : List A → ℕ → Type 0
   Filled xs i = (j : ℕ) → j < i → getD xs j d ≡ g j
 
-  pub none-filled : (xs : List A) → Filled xs 0
-  none-filled xs j l = absurd (omega arith)
-
   pub one-filled : (xs : List A) (i : ℕ) (y : A) → i < length xs → y ≡ g i → Filled xs i → Filled (set xs i y) (i + 1)
   one-filled xs i y l e f j h = go (eqb j i) refl
     where

@@ -108,6 +108,7 @@ end-no-send l h = go (keyed sendKey l) refl
 
 -- the message of a send that was read is bytes
 message-bytes : (l : List ℕ) (x : Send) → sendOf l ≡ some x → AreBytes (x .message)
+unfolding sendingAs
 message-bytes l x e =
     let t = sent-told l (x .round) (x .from) (x .to) (sym (ap sendingAs e)) in
     let m : hexOf (messageText (valueOf sendKey l)) ≡ x .message = ap (λ (y : Send). y .message) (some-is (sym (t .is) ∙ e)) in
@@ -121,11 +122,11 @@ module _ (n f : ℕ) where
     pub is-f : h .f ≡ f
 
   ends-here : (h : Header) (k last : ℕ) (l : List ℕ) (ls : List (List ℕ)) → isEnd l ≡ true
-      → cond (eqb (length ls) 0) (Good (h .n) (h .f)) (Bad (suc k)) ≡ Good n f → Ends h last (l ∷ ls)
+      → cond (eqb (length ls) 0) (Good (h .n) (h .f)) (Bad (k + 1)) ≡ Good n f → Ends h last (l ∷ ls)
   unfolding sendsIn sendThen
   ends-here h k last l ls e q = go (eqb (length ls) 0) q
     where
-      go : (t : Bool) → cond t (Good (h .n) (h .f)) (Bad (suc k)) ≡ Good n f → Ends h last (l ∷ ls)
+      go : (t : Bool) → cond t (Good (h .n) (h .f)) (Bad (k + 1)) ≡ Good n f → Ends h last (l ∷ ls)
       go true p =
           record { ranked = subst (Ranked h last) (sym (ap (λ (o : Option Send). sendThen o (sendsIn ls)) (end-no-send l e))) (no-more h last); is-n = good-is p .0; is-f = good-is p .1 }
       go false p = absurd (never-good p)
@@ -147,16 +148,16 @@ module _ (n f : ℕ) where
   sends-told : (h : Header) (k last : ℕ) (ls : List (List ℕ)) → formSends h k last ls ≡ Good n f → Ends h last ls
   unfolding formSends
   sends-told h k last [] e = absurd (never-good e)
-  sends-told h k last (l ∷ ls) e = go (isEnd l) refl e (sends-told h (suc k) (rankIn h (sendOf l)) ls)
+  sends-told h k last (l ∷ ls) e = go (isEnd l) refl e (sends-told h (k + 1) (rankIn h (sendOf l)) ls)
     where
-      rise : (t : Bool) → ltb last (rankIn h (sendOf l)) ≡ t → cond t (formSends h (suc k) (rankIn h (sendOf l)) ls) (Bad k) ≡ Good n f
-          → (formSends h (suc k) (rankIn h (sendOf l)) ls ≡ Good n f → Ends h (rankIn h (sendOf l)) ls) → Ends h last (l ∷ ls)
+      rise : (t : Bool) → ltb last (rankIn h (sendOf l)) ≡ t → cond t (formSends h (k + 1) (rankIn h (sendOf l)) ls) (Bad k) ≡ Good n f
+          → (formSends h (k + 1) (rankIn h (sendOf l)) ls ≡ Good n f → Ends h (rankIn h (sendOf l)) ls) → Ends h last (l ∷ ls)
       rise true r q rest = one-send h last l ls (sendOf l) refl (ltb-true _ _ r) (rest q)
       rise false r q rest = absurd (never-good q)
 
       go : (t : Bool) → isEnd l ≡ t
-          → cond t (cond (eqb (length ls) 0) (Good (h .n) (h .f)) (Bad (suc k))) (cond (ltb last (rankIn h (sendOf l))) (formSends h (suc k) (rankIn h (sendOf l)) ls) (Bad k)) ≡ Good n f
-          → (formSends h (suc k) (rankIn h (sendOf l)) ls ≡ Good n f → Ends h (rankIn h (sendOf l)) ls) → Ends h last (l ∷ ls)
+          → cond t (cond (eqb (length ls) 0) (Good (h .n) (h .f)) (Bad (k + 1))) (cond (ltb last (rankIn h (sendOf l))) (formSends h (k + 1) (rankIn h (sendOf l)) ls) (Bad k)) ≡ Good n f
+          → (formSends h (k + 1) (rankIn h (sendOf l)) ls ≡ Good n f → Ends h (rankIn h (sendOf l)) ls) → Ends h last (l ∷ ls)
       go true t q rest = ends-here h k last l ls t q
       go false t q rest = rise (ltb last (rankIn h (sendOf l))) refl q rest
 
@@ -169,26 +170,28 @@ module _ (n f : ℕ) where
   trays-told : (h : Header) (k left : ℕ) (ls : List (List ℕ)) → formTrays h k left ls ≡ Good n f → Trays h left ls
   unfolding formTrays
   trays-told h k zero ls e = record { trays = λ i l. absurd (omega arith); ends = sends-told h k 0 ls e }
-  trays-told h k (suc left) ls e = go (isTray (getD ls 0 [])) refl e (trays-told h (suc k) left (drop 1 ls))
+  trays-told h k (suc left) ls e = go (isTray (getD ls 0 [])) refl e (trays-told h (k + 1) left (drop 1 ls))
     where
-      go : (t : Bool) → isTray (getD ls 0 []) ≡ t → cond t (formTrays h (suc k) left (drop 1 ls)) (Bad k) ≡ Good n f
-          → (formTrays h (suc k) left (drop 1 ls) ≡ Good n f → Trays h left (drop 1 ls)) → Trays h (suc left) ls
+      go : (t : Bool) → isTray (getD ls 0 []) ≡ t → cond t (formTrays h (k + 1) left (drop 1 ls)) (Bad k) ≡ Good n f
+          → (formTrays h (k + 1) left (drop 1 ls) ≡ Good n f → Trays h left (drop 1 ls)) → Trays h (suc left) ls
       go false t q rest = absurd (never-good q)
       go true t q rest =
           let r = rest q in
-          let past : drop left (drop 1 ls) ≡ drop (suc left) ls = drop-drop left 1 ls ∙ ap (λ (j : ℕ). drop j ls) (omega arith) in
+          let k : 1 + left ≡ suc left = omega arith in
+          let past : drop left (drop 1 ls) ≡ drop (suc left) ls = drop-drop left 1 ls ∙ ap (λ (j : ℕ). drop j ls) k in
           record { trays = tray (r .trays); ends = subst (Ends h 0) past (r .ends) }
         where
           tray : ((i : ℕ) → i < left → isTray (getD (drop 1 ls) i []) ≡ true) → (i : ℕ) → i < suc left → isTray (getD ls i []) ≡ true
           tray more zero l = t
           tray more (suc i) l =
-              let at : getD (drop 1 ls) i [] ≡ getD ls (suc i) [] = getD-drop 1 ls i [] ∙ ap (λ (j : ℕ). getD ls j []) (omega arith) in
+              let k : 1 + i ≡ suc i = omega arith in
+              let at : getD (drop 1 ls) i [] ≡ getD ls (suc i) [] = getD-drop 1 ls i [] ∙ ap (λ (j : ℕ). getD ls j []) k in
               ap isTray (sym at) ∙ more i (omega arith)
 
 -- ---- a list of entries
 
 items-entries : (ps : List (List ℕ)) (xs : List ℕ) → itemsOf Entry ps ≡ some xs → AreEntries xs
-unfolding itemsOf itemOf
+unfolding itemsOf itemOf andItem
 items-entries [] xs e = subst AreEntries (some-is e) (λ i. lit< tt)
 items-entries (p ∷ ps) xs e = go (entryIn p) refl (itemsOf Entry ps) refl e (λ ys q. items-entries ps ys q)
   where
@@ -257,7 +260,7 @@ formed s n f e = go (leb (length s) scheduleMost) e
     header : (d : Headed) → headedOf (linesOf s) ≡ d → formAfter d (drop headerSize (linesOf s)) ≡ Good n f → Formed s n f
     header (BadAt k) q p = absurd (never-good p)
     header (Read h) q p =
-        let t = trays-told n f h (suc headerSize) (h .n) (drop headerSize (linesOf s)) p in
+        let t = trays-told n f h (headerSize + 1) (h .n) (drop headerSize (linesOf s)) p in
         let past : drop (h .n) (drop headerSize (linesOf s)) ≡ drop (headerSize + headerOf s .n) (linesOf s) =
         drop-drop (h .n) headerSize (linesOf s) ∙ ap (λ (d : Headed). drop (headerSize + headerAs d .n) (linesOf s)) (sym q) in
         record {

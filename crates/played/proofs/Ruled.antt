@@ -149,9 +149,15 @@ module _ (s : List ℕ) (n f : ℕ) (form : formOf s ≡ Good n f) (faulty : ℕ
       go true e = simp (bit-is ∙ e, e)
       go false e = simp (bit-is ∙ e, e, sent-same c l e (v .primary) (v .batch) k)
 
-  pub by-states : (m : List ℕ) → breaks n faulty (here .nodes) m ≡ breaksRule hall (suc r) m
+  by-states : (m : List ℕ) → breaks n faulty (here .nodes) m ≡ breaksRule hall (suc r) m
   unfolding breaks forgedAmong forgedShown breaksRule
   by-states m =
       ap (λ (t : Bool). t && forgedAmong n faulty (here .nodes) (votesIn (votesOf n m))) (nodes-sized s n f form)
       ∙ ap (λ (vs : List Vote). ltb 0 (length vs))
       (those-same _ _ (votesIn (votesOf n m)) (λ v i. ap not (every-same _ _ n (forged-for v (heard-said n m v i)))))
+
+-- before any round of the run
+pub rule-by-states : (s : List ℕ) (n f : ℕ) → formOf s ≡ Good n f → (faulty : ℕ) → faulty ≡ maskOf (isFaulty s) nodesMost → (here : Standing) (r : ℕ)
+    → here ≡ standing (hallOf s n f) r → 1 ≤ r → r ≤ f + 1 → (m : List ℕ) → breaks n faulty (here .nodes) m ≡ breaksRule (hallOf s n f) r m
+rule-by-states s n f form faulty mask here zero stands first last m = absurd (omega arith)
+rule-by-states s n f form faulty mask here (suc r) stands first last m = by-states s n f form faulty mask here r stands last m

@@ -15,7 +15,7 @@ use Rattle.wire.specs.Sizes.{messageMost}
 use Rattle.schedule.specs.Sends.{Send, sendingAs, faultyBit, fitting, fits, rankOf}
 use Rattle.schedule.specs.declared.Header.{Header}
 use Rattle.schedule.specs.declared.Sending.{Sending}
-use Rattle.schedule.specs.declared.Sending.the-variants.{Sent}
+use Rattle.schedule.specs.declared.Sending.the-variants.{Sent, NoSend}
 use Rattle.schedule.proofs.Fits.{no-such-bit}
 use Rattle.contents.specs.Contents.{sendingAt, numbered, messageIn}
 use Rattle.played.proofs.Forms.{sendAt, Ranked}
@@ -26,6 +26,17 @@ unfolding sendingAt sendingAs
 sending-at [] k l = absurd (omega arith)
 sending-at (x ∷ xs) zero l = refl
 sending-at (x ∷ xs) (suc k) l = sending-at xs k (omega arith)
+
+-- what the answer of `send_at` tells
+pub sent-numbers : (xs : List Send) (k r i j : ℕ) → k < length xs → Sent r i j ≡ sendingAt xs k
+    → (r ≡ sendAt xs k .round) × (i ≡ sendAt xs k .from) × (j ≡ sendAt xs k .to)
+sent-numbers xs k r i j l e = sent-is (e ∙ sending-at xs k l)
+  where
+    sent-is : {a b c x y z : ℕ} → Sent a b c ≡ Sent x y z → (a ≡ x) × (b ≡ y) × (c ≡ z)
+    sent-is q = (cc, cc, cc)
+
+pub never-none : (xs : List Send) (k : ℕ) → k < length xs → NoSend ≡ sendingAt xs k → ⊥
+never-none xs k l e = let q = e ∙ sending-at xs k l in let z : _≡_ {A = ℕ} 0 1 = cc in omega arith
 
 -- ---- found by its numbers
 
@@ -107,6 +118,14 @@ module _ (h : Header) (low : h .faulty < 2 ^ nodesMost) (few : h .n ≤ nodesMos
         let a = fitting-at k (omega arith) in
         let b = fitting-at (k + 1) l in
         omega (arith, ranked .rise k (k + 1) (omega arith) l, a .from, a .to, b .from, b .to)
+
+    -- there are few: ranks go up from 1, and none is above that of the last round
+    rank-above : (k : ℕ) → k < length xs → k < rankOf (sendAt xs k)
+    rank-above zero l = ranked .above 0 l
+    rank-above (suc k) l = omega (arith, rank-above k (omega arith), ranked .rise k (suc k) (omega arith) l)
+
+    pub sends-few : (k : ℕ) → k < length xs → k < (h .f + 2) * (nodesMost * nodesMost)
+    sends-few k l = let a = fitting-at k l in omega (arith, rank-above k l, a .last, a .from, a .to)
 
     pub its-message : (k : ℕ) → k < length xs → messageIn (sendAt xs k .round) (sendAt xs k .from) (sendAt xs k .to) xs ≡ sendAt xs k .message
     its-message k l = first-message xs k l (ranked .rise)

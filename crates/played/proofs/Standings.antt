@@ -36,7 +36,8 @@ use Rattle.schedule.specs.Forms.{formOf}
 use Rattle.schedule.specs.declared.Form.the-variants.{Good}
 use Rattle.schedule.proofs.Heads.{Whole, header-told}
 use Rattle.text.specs.Lines.{linesOf}
-use Rattle.contents.specs.Contents.{isFaulty, entriesOfTray, messageFor, sendsOf}
+use Rattle.contents.specs.Contents.{headerAs, headerOf, isFaulty, entriesOfTray, messageFor, sendsOf}
+use Rattle.schedule.specs.declared.Headed.{Headed}
 use Rattle.shown.specs.Shown.{nodeAt}
 use Rattle.played.specs.Inboxes.{outboxOf, sentIn, outboxAt, messageTo, inboxTo, Short}
 use Rattle.played.specs.Standing.{stoodOf, nobody, unopened, steppedTo, correct, nodeBefore, stoodAt, standing}
@@ -45,7 +46,7 @@ use Rattle.played.specs.declared.Outbox.{Outbox}
 use Rattle.played.specs.declared.Standing.{Standing}
 use Rattle.played.specs.declared.Stood.{Stood}
 use Rattle.played.proofs.Forms.{sendAt, Formed, formed, tray-told}
-use Rattle.played.proofs.Sends.{Fitting, fitting-at, rounds-rise, its-message, given-short, given-bytes}
+use Rattle.played.proofs.Sends.{Fitting, fitting-at, rounds-rise, sends-few, its-message, given-short, given-bytes}
 
 -- a node's bit in a mask
 pub mask-tells : (t : ℕ → Bool) (j : ℕ) → j < nodesMost → eqb (bit (maskOf t nodesMost) j) 1 ≡ t j
@@ -114,10 +115,10 @@ module _ (s : List ℕ) (n f : ℕ) (form : formOf s ≡ Good n f) where
   pub nodes-above : 2 * f < n
   nodes-above = omega (arith, head .half, told .is-n, told .is-f)
 
-  low : told .header .faulty < 2 ^ nodesMost
+  pub low : told .header .faulty < 2 ^ nodesMost
   low = subst (λ (m : ℕ). m < 2 ^ nodesMost) (sym (head .mask)) (mask-below _ nodesMost)
 
-  few : told .header .n ≤ nodesMost
+  pub few : told .header .n ≤ nodesMost
   few = sized-most _ (head .nodes)
 
   pub all-short : (r j i : ℕ) → length (messageFor s r j i) ≤ messageMost
@@ -126,12 +127,22 @@ module _ (s : List ℕ) (n f : ℕ) (form : formOf s ≡ Good n f) where
   pub send-fits : (k : ℕ) → k < length (sendsOf s) → Fitting (told .header) low few (sendAt (sendsOf s) k)
   send-fits = fitting-at (told .header) low few (sendsOf s) (told .ranked)
 
+  pub send-last : (k : ℕ) → k < length (sendsOf s) → sendAt (sendsOf s) k .round ≤ f + 1
+  send-last k l = omega (arith, send-fits k l .last, told .is-f)
+
   pub send-rounds : (k : ℕ) → k + 1 < length (sendsOf s) → sendAt (sendsOf s) k .round ≤ sendAt (sendsOf s) (k + 1) .round
   send-rounds = rounds-rise (told .header) low few (sendsOf s) (told .ranked)
 
   pub send-message : (k : ℕ) → k < length (sendsOf s)
       → messageFor s (sendAt (sendsOf s) k .round) (sendAt (sendsOf s) k .from) (sendAt (sendsOf s) k .to) ≡ sendAt (sendsOf s) k .message
   send-message = its-message (told .header) low few (sendsOf s) (told .ranked)
+
+  pub send-few : (k : ℕ) → k < length (sendsOf s) → k < (f + 2) * (nodesMost * nodesMost)
+  send-few k l = omega (arith, sends-few (told .header) low few (sendsOf s) (told .ranked) k l, told .is-f)
+
+  pub header-nodes : headerOf s .n ≡ n
+  unfolding headerAs
+  header-nodes = ap (λ (d : Headed). headerAs d .n) (told .read) ∙ told .is-n
 
   -- what the run is given
   given : Given n f (isFaulty s) (λ i. trayOf (entriesOfTray s i)) (λ r j i. messageFor s r j i) []

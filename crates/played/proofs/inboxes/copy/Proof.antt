@@ -1,5 +1,5 @@
 -- Before turn i the first i bytes are copied.
-use Prim.Native.Nat.{_-_, _≤_}
+use Prim.Native.Nat.{ℕ, _-_, _≤_}
 use mathlib.Core.Path.{_≡_, refl, sym, ap, _∙_}
 use mathlib.Core.List.{_++_}
 use native.Mathlib.Omega.{arith}
@@ -41,7 +41,12 @@ same-length : tie.Need-same-length Inv-loop μ-loop
 same-length c = c .before .loop .inv .1
 
 returns : tie.Need-returns Inv-loop μ-loop
-returns c = ?
+returns c =
+    let a = c .before .before .before .args in
+    let l = c .before .loop in
+    let all : l .i ≡ a .size = omega arith in
+    let size = length-take-le (a .size) (now (a .bytes)) (omega arith) in
+    (sym size, l .inv .2 ∙ ap (λ (k : ℕ). take k (now (a .bytes)) ++ drop k (now (a .output))) all ∙ ap (λ (k : ℕ). take (a .size) (now (a .bytes)) ++ drop k (now (a .output))) (sym size))
 
 pub copy-spec : {M : Type 1} → statement M
 copy-spec =

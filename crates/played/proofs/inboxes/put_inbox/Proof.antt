@@ -64,9 +64,12 @@ put-slot-requires : tie.Need-put-slot-requires Inv-loop μ-loop
 put-slot-requires c κs =
     let s = c .before .before .before .before .before .before in
     let l = c .before .before .before .loop in
-    let here = l .inv .2 in
-    (omega (arith, s .pre .0), s .pre .1 .given (s .args .r) (l .j) (s .args .i), s .pre .1 .sent (l .j),
-    omega (arith, here .low, s .pre .0, s .pre .2, ap length (rest-of (l .inbox) (l .at)), length-drop (l .at) (l .inbox)))
+    let here = l .inv .2 in (
+      omega (arith, s .pre .0),
+      s .pre .1 .given (s .args .r) (l .j) (s .args .i),
+      s .pre .1 .sent (l .j),
+      omega (arith, here .low, s .pre .0, s .pre .2, ap length (rest-of (l .inbox) (l .at)), length-drop (l .at) (l .inbox)),
+    )
 
 add-at : tie.Need-add-at Inv-loop μ-loop
 add-at c =

@@ -11,7 +11,7 @@ use Rattle.played.specs.Standing.{nobody, stoodAt}
 use Rattle.played.specs.Playing.{hallOf}
 use Rattle.played.specs.declared.Standing.{Standing}
 use Rattle.played.specs.declared.Stood.{Stood}
-use Rattle.played.proofs.Filled.{Filled, none-filled, one-filled, all-filled}
+use Rattle.played.proofs.Filled.{Filled, one-filled, all-filled}
 use Rattle.played.proofs.Standings.{nodes-above, nodes-most}
 use borrow.Author.Needs.{needs}
 use Rattle.played.proofs.rounds.advance.Statement.{statement}
@@ -32,7 +32,7 @@ start-requires c κs = search needs
 loop-holds : tie.Need-loop-holds Inv-loop μ-loop
 loop-holds c =
     let e = c .before .before .start .ensures in
-    (omega arith, ap (λ (x : Standing). length (x .nodes)) e, ap (λ (x : Standing). length (x .outboxes)) e, none-filled _ _ _, none-filled _ _ _)
+    (omega arith, ap (λ (x : Standing). length (x .nodes)) e, ap (λ (x : Standing). length (x .outboxes)) e, λ j l. absurd (omega arith), λ j l. absurd (omega arith))
 
 next-node-requires : tie.Need-next-node-requires Inv-loop μ-loop
 next-node-requires c κs =
@@ -60,10 +60,13 @@ loop-less c = search needs
 loop-again : tie.Need-loop-again Inv-loop μ-loop
 loop-again c =
     let l = c .before .before .before .before .loop in
-    let e = c .before .before .next-node .ensures in
-    (omega arith, length-set (l .nodes) (l .i) _ ∙ l .inv .1, length-set (l .outboxes) (l .i) _ ∙ l .inv .2,
-    one-filled _ _ (l .nodes) (l .i) _ (omega (arith, l .inv .1)) (ap (λ (x : Stood). x .node) e) (l .inv .3),
-    one-filled _ _ (l .outboxes) (l .i) _ (omega (arith, l .inv .2)) (ap (λ (x : Stood). x .outbox) e) (l .inv .4))
+    let e = c .before .before .next-node .ensures in (
+      omega arith,
+      length-set (l .nodes) (l .i) _ ∙ l .inv .1,
+      length-set (l .outboxes) (l .i) _ ∙ l .inv .2,
+      one-filled _ _ (l .nodes) (l .i) _ (omega (arith, l .inv .1)) (ap (λ (x : Stood). x .node) e) (l .inv .3),
+      one-filled _ _ (l .outboxes) (l .i) _ (omega (arith, l .inv .2)) (ap (λ (x : Stood). x .outbox) e) (l .inv .4),
+    )
 
 add-t19 : tie.Need-add-t19 Inv-loop μ-loop
 add-t19 c =

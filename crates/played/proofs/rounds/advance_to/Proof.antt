@@ -21,7 +21,7 @@ loop-holds : tie.Need-loop-holds Inv-loop μ-loop
 loop-holds c = let p = c .before .pre in (p .2, p .3)
 
 advance-requires : tie.Need-advance-requires Inv-loop μ-loop
-advance-requires c κs = ?
+advance-requires c κs = let p = c .before .before .before .before .pre in (p .0, p .1, c .before .before .loop .inv .0, omega arith)
 
 loop-less : tie.Need-loop-less Inv-loop μ-loop
 loop-less c = let e = ap (λ (x : Standing). x .next) (c .advance .ensures) in omega (arith, e)

@@ -1,11 +1,11 @@
 -- The inbox is read whole, and the step is the one of the node's course.
-use Prim.Native.Nat.{_≤_}
+use Prim.Native.Nat.{ℕ, _≤_}
 use mathlib.Core.Path.{_≡_, sym, subst}
 use mathlib.Core.List.{List}
 use denote.Ref.{now}
-use lib.ListN.{length, take}
+use lib.ListN.{length, take, replicate}
 use lib.Seq.{length-take-le}
-use Prim.Native.Nat.{ℕ}
+use Rattle.wire.specs.Sizes.{messageMost}
 use Rattle.step.specs.Step.{Step}
 use Rattle.played.specs.Inboxes.{inboxTo}
 use Rattle.played.proofs.Messages.{front-read}
@@ -41,7 +41,9 @@ returns : tie.Need-returns
 returns c =
     let a = c .before .before .before .before .before .before .before .before .before .args in
     let inbox = inboxTo (now (a .s)) (a .n) (a .faulty) (a .r) (a .i) (a .outboxes) in
-    stepped-stands (a .node) inbox (c .before .before .step .result) _ (subst (λ (x : List ℕ). Step (a .node) x _ (c .before .before .step .result) _) (read (c .before .before .before .before .before .before) .1) (c .before .before .step .ensures))
+    let after = c .before .before .step .last .1 .1 .0 in
+    stepped-stands (a .node) inbox (c .before .before .step .result) after
+    (subst (λ (x : List ℕ). Step (a .node) x (replicate messageMost 0) (c .before .before .step .result) after) (read (c .before .before .before .before .before .before) .1) (c .before .before .step .ensures))
 
 pub step-node-spec : {M : Type 1} → statement M
 step-node-spec =
