@@ -4,20 +4,16 @@ use Prim.Native.Nat.{ℕ, zero, suc, _+_}
 use mathlib.Core.Bool.{Bool, false, _&&_, cond}
 use mathlib.Core.List.{List, [], _∷_}
 use lib.Dec.{eqb}
-use lib.ListN.{replicate}
-use Rattle.rules.specs.Sizes.{nodesMost}
 use Rattle.tray.specs.Trays.{trayOf}
-use Rattle.node.specs.declared.Node.{Node}
 use Rattle.agreement.specs.Hall.{Hall}
 use Rattle.agreement.specs.Carried.{carriedHall}
 use Rattle.agreement.specs.Rule.{breaksRule}
-use Rattle.schedule.specs.Header.{headerSize}
 use Rattle.schedule.specs.Sends.{Send}
 use Rattle.schedule.specs.Forms.{formOf}
 use Rattle.schedule.specs.declared.Form.{Form}
 use Rattle.schedule.specs.declared.Form.the-variants.{Good, Bad}
-use Rattle.contents.specs.Contents.{isFaulty, entriesOfTray, sendsOf, messageFor}
-use Rattle.played.specs.Standing.{nobody, standing}
+use Rattle.contents.specs.Contents.{isFaulty, entriesOfTray, sendsOf, sendLine, messageFor}
+use Rattle.played.specs.Standing.{noNodes, standing}
 use Rattle.played.specs.declared.Played.{Played}
 
 -- the run of a schedule: every outbox is carried whole, and what faulty nodes send is its sends; "Old logs are empty."
@@ -27,19 +23,16 @@ hallOf s n f = carriedHall n f (isFaulty s) (λ i. trayOf (entriesOfTray s i)) (
 -- the line of the first of these sends that breaks the rule, where they begin at line k; 0 where none does
 unfoldable pub breachFrom : Hall → ℕ → List Send → ℕ
 breachFrom hall k [] = 0
-breachFrom hall k (x ∷ xs) = cond (breaksRule hall (x .round) (x .message)) k (breachFrom hall (suc k) xs)
+breachFrom hall k (x ∷ xs) = cond (breaksRule hall (x .round) (x .message)) k (breachFrom hall (k + 1) xs)
 
--- of the schedule's sends, which follow the header and n tray lines
+-- of the schedule's sends
 abbrev pub breach : (s : List ℕ) (n f : ℕ) → ℕ
-breach s n f = breachFrom (hallOf s n f) (suc headerSize + n) (sendsOf s)
+breach s n f = breachFrom (hallOf s n f) (sendLine s 0) (sendsOf s)
 
 -- the form is good with these sizes
 unfoldable pub goodAs : (n f : ℕ) → Form → Bool
 goodAs n f (Good m g) = eqb m n && eqb g f
 goodAs n f (Bad k) = false
-
-abbrev pub noNodes : List Node
-noNodes = replicate nodesMost nobody
 
 -- the nodes after round f + 1, which is before round f + 2; none where a line is bad
 unfoldable pub playedTo : (hall : Hall) (bad : ℕ) → Played

@@ -3,6 +3,7 @@ use Prim.Native.Nat.{ℕ, zero, suc}
 use mathlib.Core.Bool.{Bool, not, _&&_, cond}
 use mathlib.Core.List.{List, [], _∷_}
 use lib.Dec.{ltb}
+use lib.ListN.{replicate}
 use Rattle.rules.specs.Sizes.{nodesMost}
 use Rattle.rules.specs.Refusals.{ifDone}
 use Rattle.rules.specs.Step.{gather}
@@ -23,6 +24,13 @@ stoodOf s m = record { node = s; outbox = outboxOf m }
 -- a number that no correct node has
 abbrev pub nobody : Node
 nobody = fresh 0 0 0
+
+abbrev pub noNodes : List Node
+noNodes = replicate nodesMost nobody
+
+-- before the opening
+abbrev pub unopened : Standing
+unopened = record { next = 0; nodes = noNodes; outboxes = replicate nodesMost (outboxOf []) }
 
 -- a node and what it sends once it has taken its step
 abbrev pub steppedTo : Node → List ℕ → Stood

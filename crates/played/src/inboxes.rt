@@ -19,9 +19,10 @@ fn copy(bytes: &[u8; MESSAGE_MOST], size: usize, output: &mut [u8]) -> usize
     requires { ⌜ (size ≤ messageMost) × (messageMost ≤ length (now output)) ⌝ }
     ensures { λ r. ⌜ (r ≡ length (take size (now (bytes .entry)))) × (now (output .exit) ≡ onto (take size (now (bytes .entry))) (now (output .entry))) ⌝ }
 {
+    let all: &[u8] = bytes;
     let mut i = 0;
     while i < size {
-        output[i] = bytes[i];
+        output[i] = all[i];
         i += 1;
     }
     size

@@ -1,20 +1,18 @@
 // Playing a schedule: the rule is checked in file order, each send on the states before its round; then the rounds that are left.
 ghost use mathlib.Core.Path.{_≡_};
-ghost use Prim.Native.Nat.{_≤_, zero, suc};
+ghost use Prim.Native.Nat.{_≤_};
 ghost use lib.ListN.{length};
-ghost use Rattle.laws.specs.Masks.{maskOf};
-ghost use Rattle.rules.specs.Sizes.{nodesMost};
 ghost use Rattle.wire.specs.Sizes.{messageMost};
 ghost use Rattle.schedule.specs.Forms.{formOf};
 ghost use Rattle.schedule.specs.declared.Form.the-variants.{Good};
-ghost use Rattle.contents.specs.Contents.{isFaulty, messageFor};
+ghost use Rattle.contents.specs.Contents.{messageFor};
 ghost use Rattle.shown.specs.Shown.{breaks};
-ghost use Rattle.played.specs.Standing.{standing};
-ghost use Rattle.played.specs.Playing.{breach, hallOf, noNodes, playedOf, playedTo};
+ghost use Rattle.played.specs.Standing.{noNodes};
+ghost use Rattle.played.specs.Playing.{breach, hallOf, playedOf, playedTo};
 use crate::Played;
-use crate::Standing;
 use crate::rounds::advance_to;
 use crate::rounds::no_node;
+use crate::rounds::start;
 use node::Node;
 use rules::NODES_MOST;
 use schedule::Form;
@@ -52,14 +50,14 @@ fn breaks_send(
     shown::breaks_rule(n, faulty, nodes, &message[..size])
 }
 
-// The schedule has a good form with these sizes.
-fn play_good(s: &[u8], n: usize, f: usize, start: Standing) -> Played
-    requires { ⌜ (formOf (now s) ≡ Good n f) × (start ≡ standing (hallOf (now s) n f) 0) ⌝ }
+// A schedule whose form is good with these sizes.
+fn play_good(s: &[u8], n: usize, f: usize) -> Played
+    requires { ⌜ formOf (now s) ≡ Good n f ⌝ }
     ensures { λ r. ⌜ r ≡ playedTo (hallOf (now (s .entry)) n f) (breach (now (s .entry)) n f) ⌝ }
 {
     let faulty = contents::faulty_mask(s);
     let count = contents::send_count(s);
-    let mut here = start;
+    let mut here = start();
     let mut k: usize = 0;
     while k < count {
         match contents::send_at(s, k) {
@@ -82,5 +80,26 @@ fn play_good(s: &[u8], n: usize, f: usize, start: Standing) -> Played
     Played {
         bad: 0,
         nodes: nodes,
+    }
+}
+
+// The line of the first send that breaks the rule, or the nodes after round f + 1. A schedule that has not a good form with these sizes is not played.
+pub fn play(s: &[u8], n: usize, f: usize) -> Played
+    ensures { λ r. ⌜ r ≡ playedOf (now (s .entry)) n f ⌝ }
+{
+    match schedule::check_form(s) {
+        Form::Good {
+            n: nodes,
+            f: faults,
+        } => {
+            if nodes != n {
+                return not_played(0);
+            }
+            if faults != f {
+                return not_played(0);
+            }
+            play_good(s, n, f)
+        }
+        Form::Bad(_) => not_played(0),
     }
 }

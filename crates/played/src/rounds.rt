@@ -1,7 +1,7 @@
 // The rounds: every correct node opens, then steps round after round, all of them in each.
 ghost use mathlib.Core.Path.{_≡_};
 ghost use mathlib.Core.List.{[]};
-ghost use Prim.Native.Nat.{_+_, _≤_, _<_, suc};
+ghost use Prim.Native.Nat.{_+_, _≤_, _<_};
 ghost use Rattle.laws.specs.Masks.{maskOf};
 ghost use Rattle.rules.specs.Sizes.{nodesMost};
 ghost use Rattle.agreement.specs.Hall.{nodeAfter, sends};
@@ -9,7 +9,7 @@ ghost use Rattle.schedule.specs.Forms.{formOf};
 ghost use Rattle.schedule.specs.declared.Form.the-variants.{Good};
 ghost use Rattle.contents.specs.Contents.{isFaulty};
 ghost use Rattle.played.specs.Inboxes.{Short, inboxTo};
-ghost use Rattle.played.specs.Standing.{nobody, standing, steppedTo, stoodAt, stoodOf};
+ghost use Rattle.played.specs.Standing.{nobody, standing, steppedTo, stoodAt, stoodOf, unopened};
 ghost use Rattle.played.specs.Playing.{hallOf};
 use crate::INBOX_MOST;
 use crate::Outbox;
@@ -33,6 +33,20 @@ pub(crate) fn no_node() -> Stood
     Stood {
         node: node,
         outbox: outbox,
+    }
+}
+
+// Before the opening.
+pub(crate) fn start() -> Standing
+    ensures { λ r. ⌜ r ≡ unopened ⌝ }
+{
+    let filler = no_node();
+    let nobody = filler.node;
+    let silence = filler.outbox;
+    Standing {
+        next: 0,
+        nodes: [nobody; NODES_MOST],
+        outboxes: [silence; NODES_MOST],
     }
 }
 
@@ -109,11 +123,9 @@ fn advance(s: &[u8], n: usize, f: usize, faulty: u16, here: Standing) -> Standin
     requires { ⌜ (formOf (now s) ≡ Good n f) × (faulty ≡ maskOf (isFaulty (now s)) nodesMost) × (here ≡ standing (hallOf (now s) n f) (here .next)) × (here .next ≤ f + 1) ⌝ }
     ensures { λ r. ⌜ r ≡ standing (hallOf (now (s .entry)) n f) (here .next + 1) ⌝ }
 {
-    let filler = no_node();
-    let nobody = filler.node;
-    let silence = filler.outbox;
-    let mut nodes = [nobody; NODES_MOST];
-    let mut outboxes = [silence; NODES_MOST];
+    let empty = start();
+    let mut nodes = empty.nodes;
+    let mut outboxes = empty.outboxes;
     let mut i: usize = 0;
     while i < NODES_MOST {
         let stood = next_node(s, n, f, faulty, here, i);

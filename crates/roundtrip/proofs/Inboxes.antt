@@ -91,7 +91,7 @@ same-messages (m ∷ ms) h =
 
 -- ---- cut and put together again
 
-inbox-append : (ms ns : List (List ℕ)) → inboxBytes (ms ++ ns) ≡ inboxBytes ms ++ inboxBytes ns
+pub inbox-append : (ms ns : List (List ℕ)) → inboxBytes (ms ++ ns) ≡ inboxBytes ms ++ inboxBytes ns
 unfolding inboxBytes
 inbox-append [] ns = refl
 inbox-append (m ∷ ms) ns =

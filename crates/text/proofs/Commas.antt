@@ -136,9 +136,15 @@ pub record Going (kind : Kind) (s items : List ℕ) (count last at : ℕ) : Type
 pub going-start : (kind : Kind) (s : List ℕ) → (length s ≡ 0 → ⊥) → Going kind s (replicate batchMost 0) 0 0 0
 unfolding listOf
 going-start kind s h = record {
-    xs = []; shape = refl; size = refl; few = omega arith; here = omega arith; order = refl; tip = refl;
-    left = simp (ne-eqb _ _ h) (ap checked (sym (front-none (itemsOf kind (split comma s)))));
-  }
+  xs = [];
+  shape = refl;
+  size = refl;
+  few = omega arith;
+  here = omega arith;
+  order = refl;
+  tip = refl;
+  left = simp (ne-eqb _ _ h) (ap checked (sym (front-none (itemsOf kind (split comma s)))));
+}
 
 pub no-items : (kind : Kind) (s : List ℕ) → length s ≡ 0 → listOf kind s ≡ some []
 unfolding listOf
@@ -205,22 +211,25 @@ module _ (kind : Kind) (s items : List ℕ) (count last at : ℕ) (g : Going kin
       item-last h =
           let l : length zs ≤ batchMost = omega (arith, zs-size) in
           let e : listOf kind s ≡ some zs =
-              cut-value ∙ simp (le-ltb _ _ h) (ap checked (front-item (g .xs) x (some []) ∙ ap some (append-nil zs)) ∙ simp (le-leb _ _ l, zs-order)) in
+          cut-value ∙ simp (le-ltb _ _ h) (ap checked (front-item (g .xs) x (some []) ∙ ap some (append-nil zs)) ∙ simp (le-leb _ _ l, zs-order)) in
           listed-is zs (set items count x) (count + 1) zs-size zs-shape ∙ ap listedAs (sym e)
 
       pub item-next : k < length part → Going kind s (set items count x) (count + 1) x (at + k + 1)
       unfolding zs rest-of
       item-next h = record {
-          xs = zs; shape = zs-shape; size = zs-size; few = omega arith;
-          here = let e : length part ≡ length s - at = ap length pe ∙ length-drop at s in let m = g .here in omega arith;
-          order = zs-order;
-          tip = sym (last-snoc 0 (g .xs) x);
-          left =
-              let n : at + (k + 1) ≡ at + k + 1 = omega arith in
-              cut-value ∙ simp (lt-ltb _ _ h)
-              (ap checked (front-item (g .xs) x (itemsOf kind (split comma (drop (k + 1) part))))
-              ∙ ap (λ (l : List ℕ). checked (front zs (itemsOf kind (split comma l)))) (ap (drop (k + 1)) pe ∙ drop-drop (k + 1) at s ∙ ap (λ (j : ℕ). drop j s) n));
-        }
+        xs = zs;
+        shape = zs-shape;
+        size = zs-size;
+        few = omega arith;
+        here = let e : length part ≡ length s - at = ap length pe ∙ length-drop at s in let m = g .here in omega arith;
+        order = zs-order;
+        tip = sym (last-snoc 0 (g .xs) x);
+        left =
+            let n : at + (k + 1) ≡ at + k + 1 = omega arith in
+            cut-value ∙ simp (lt-ltb _ _ h)
+            (ap checked (front-item (g .xs) x (itemsOf kind (split comma (drop (k + 1) part))))
+            ∙ ap (λ (l : List ℕ). checked (front zs (itemsOf kind (split comma l)))) (ap (drop (k + 1)) pe ∙ drop-drop (k + 1) at s ∙ ap (λ (j : ℕ). drop j s) n));
+      }
 
 pub items-full : (kind : Kind) (s items : List ℕ) (count last at : ℕ) → Going kind s items count last at → batchMost ≤ count → listOf kind s ≡ none
 unfolding itemsOf

@@ -26,3 +26,7 @@ put-nothing w out e = subst (λ (x : List ℕ). Put x out 0 out) (sym e) (put-do
 -- where there is room, it was written
 pub put-written : (w out after : List ℕ) (a : ℕ) → length w ≤ length out → Put w out a after → (a ≡ length w) × (after ≡ onto w out)
 put-written w out after a h p = (p .answers ∙ simp (le-leb _ _ h), p .leaves ∙ simp (le-leb _ _ h))
+
+-- equal texts are put alike
+pub put-equal : (v w out after : List ℕ) (a : ℕ) → v ≡ w → Put v out a after → Put w out a after
+put-equal v w out after a e p = subst (λ (x : List ℕ). Put x out a after) e p

@@ -97,9 +97,12 @@ loop-again c =
     let l = c .before .before .before .before .before .before .before .loop in
     let fits = line-fits (now (a .s)) (now (c .before .before .before .before .first-line .result)) (l .at) (omega arith) (c .before .before .before .before .first-line .ensures) in
     let some = line-some (now (a .s)) (now (c .before .before .before .before .first-line .result)) (l .at) (omega arith) (c .before .before .before .before .first-line .ensures) (c .before .before .before .before .before .before .loop-test .taken) in
-    let next = lines-next (now (a .s)) _ (l .at) (omega arith) (c .before .before .before .before .first-line .ensures) (c .before .before .before .before .before .before .loop-test .taken) in
-    (fits, omega (arith, some), l .inv .2 ∙ ap (formSends (a .h) (l .k) (l .last)) next
-    ∙ sends-go (a .h) (l .k) (l .last) _ _ _ (c .before .send-rank .ensures) (sym (c .before .before .before .is-end .ensures) ∙ c .before .before .if1 .left) (c .if3 .left))
+    let next = lines-next (now (a .s)) _ (l .at) (omega arith) (c .before .before .before .before .first-line .ensures) (c .before .before .before .before .before .before .loop-test .taken) in (
+      fits,
+      omega (arith, some),
+      l .inv .2 ∙ ap (formSends (a .h) (l .k) (l .last)) next
+          ∙ sends-go (a .h) (l .k) (l .last) _ _ _ (c .before .send-rank .ensures) (sym (c .before .before .before .is-end .ensures) ∙ c .before .before .if1 .left) (c .if3 .left),
+    )
 
 returns-4 : tie.Need-returns-4 Inv-loop μ-loop
 returns-4 c =

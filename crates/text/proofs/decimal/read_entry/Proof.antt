@@ -64,10 +64,11 @@ returns-3 c =
 -- the three numbers are small
 small : (c : tie.After-known-told3)
     → (c .before .before .before .before .before .before .before .before .before .before .before .meter .given .0 .0 ≤ halfMost) × (c .before .before .before .before .before .before .interval .given .0 .0 ≤ halfMost) × (c .before .watthours .given .0 .0 ≤ wordMost)
-small c =
-    (field-small dot halfMost (now (c .before .before .before .before .before .before .before .before .before .before .before .before .before .before .before .args .s)) _ (sym (c .before .before .before .before .before .before .before .before .before .before .before .meter .given .1) ∙ c .before .before .before .before .before .before .before .before .before .before .before .before .before .read-field .ensures),
-    field-small dot halfMost (now (c .before .before .before .before .before .before .before .before .before .past .result)) _ (sym (c .before .before .before .before .before .before .interval .given .1) ∙ c .before .before .before .before .before .before .before .before .read-field2 .ensures),
-    number-small wordMost (now (c .before .before .before .before .past2 .result)) _ (sym (c .before .watthours .given .1) ∙ c .before .before .before .read-number .ensures))
+small c = (
+  field-small dot halfMost (now (c .before .before .before .before .before .before .before .before .before .before .before .before .before .before .before .args .s)) _ (sym (c .before .before .before .before .before .before .before .before .before .before .before .meter .given .1) ∙ c .before .before .before .before .before .before .before .before .before .before .before .before .before .read-field .ensures),
+  field-small dot halfMost (now (c .before .before .before .before .before .before .before .before .before .past .result)) _ (sym (c .before .before .before .before .before .before .interval .given .1) ∙ c .before .before .before .before .before .before .before .before .read-field2 .ensures),
+  number-small wordMost (now (c .before .before .before .before .past2 .result)) _ (sym (c .before .watthours .given .1) ∙ c .before .before .before .read-number .ensures),
+)
 
 mul-t10 : tie.Need-mul-t10
 mul-t10 c = omega (arith, small c .0, small c .1)

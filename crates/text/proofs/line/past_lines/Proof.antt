@@ -62,9 +62,11 @@ loop-less c = search needs
 loop-again : tie.Need-loop-again Inv-loop μ-loop
 loop-again c =
     let s = now (c .before .before .before .before .before .before .args .s) in
-    let l = c .before .before .before .before .loop in
-    (len-fits s (l .at) (c .line-len .result) (omega arith) (c .line-len .ensures), omega arith,
-    lines-turn s (l .at) (l .i) (c .line-len .result) (c .line-len .ensures) (l .inv .2))
+    let l = c .before .before .before .before .loop in (
+      len-fits s (l .at) (c .line-len .result) (omega arith) (c .line-len .ensures),
+      omega arith,
+      lines-turn s (l .at) (l .i) (c .line-len .result) (c .line-len .ensures) (l .inv .2),
+    )
 
 sub-result-2 : tie.Need-sub-result-2 Inv-loop μ-loop
 sub-result-2 c = search needs

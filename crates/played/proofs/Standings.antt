@@ -1,0 +1,250 @@
+-- Where a run stands: what the calls of a round make of it is where it stands before the next.
+use Prim.Native.Nat.{ℕ, zero, suc, _+_, _*_, _^_, _≤_, _<_}
+use mathlib.Core.Path.{_≡_, refl, sym, ap, ap₂, subst, _∙_}
+use mathlib.Core.Logic.{_≢_, ⊎-elim}
+use mathlib.Core.Bool.{Bool, true, false, not, _&&_, cond}
+use mathlib.Core.List.{List, [], _∷_, _++_}
+use native.Mathlib.Numerals.{add-one}
+use native.Mathlib.Omega.{arith}
+use borrow.Author.Tests.{lt-ltb, le-ltb, ltb-true, not-true, eq-eqb, ne-eqb, eqb-true}
+use lib.Dec.{eqb, ltb}
+use lib.ListN.{length, getD, take, drop, replicate}
+use lib.Seq.{take-at}
+use Rattle.laws.specs.Masks.{bit, asBit, maskOf}
+use Rattle.laws.proofs.Tests.{clash, both}
+use Rattle.laws.proofs.Bits.{mask-bit, mask-below}
+use Rattle.laws.proofs.Order.{lt-or-ge}
+use Rattle.rules.specs.Sizes.{nodesMost, sized, sizes}
+use Rattle.rules.specs.Step.{gather}
+use Rattle.rules.proofs.Gathered.{each-length, each-at}
+use Rattle.rules.proofs.Inbox.{gather-same}
+use Rattle.rules.proofs.Sizes.{sized-most, majority}
+use Rattle.wire.specs.Sizes.{messageMost}
+use Rattle.wire.specs.Inbox.{inboxBytes}
+use Rattle.tray.specs.Trays.{trayOf}
+use Rattle.tray.proofs.Sound.{of-entries, of-is-sound}
+use Rattle.node.specs.declared.Node.{Node}
+use Rattle.step.specs.Course.{after, outbox}
+use Rattle.step.proofs.Courses.{outbox-short}
+use Rattle.agreement.specs.Hall.{Hall, nodeAfter, sends}
+use Rattle.agreement.specs.Granted.{Correct}
+use Rattle.agreement.proofs.Follows.{Unhindered}
+use Rattle.agreement.proofs.Carried.{Given, inbox-is, unhindered}
+use Rattle.entries.specs.Bytes.{AreEntries}
+use Rattle.schedule.specs.Header.{headerSize, maskIn}
+use Rattle.schedule.specs.Forms.{formOf}
+use Rattle.schedule.specs.declared.Form.the-variants.{Good}
+use Rattle.schedule.proofs.Heads.{Whole, header-told}
+use Rattle.text.specs.Lines.{linesOf}
+use Rattle.contents.specs.Contents.{headerAs, headerOf, isFaulty, entriesOfTray, messageFor, sendsOf}
+use Rattle.schedule.specs.declared.Headed.{Headed}
+use Rattle.shown.specs.Shown.{nodeAt}
+use Rattle.played.specs.Inboxes.{outboxOf, sentIn, outboxAt, messageTo, inboxTo, Short}
+use Rattle.played.specs.Standing.{stoodOf, nobody, unopened, steppedTo, correct, nodeBefore, stoodAt, standing}
+use Rattle.played.specs.Playing.{hallOf}
+use Rattle.played.specs.declared.Outbox.{Outbox}
+use Rattle.played.specs.declared.Standing.{Standing}
+use Rattle.played.specs.declared.Stood.{Stood}
+use Rattle.played.proofs.Forms.{sendAt, Formed, formed, tray-told}
+use Rattle.played.proofs.Sends.{Fitting, fitting-at, rounds-rise, sends-few, its-message, given-short, given-bytes}
+
+-- a node's bit in a mask
+pub mask-tells : (t : ℕ → Bool) (j : ℕ) → j < nodesMost → eqb (bit (maskOf t nodesMost) j) 1 ≡ t j
+mask-tells t j l = ap (λ (x : ℕ). eqb x 1) (mask-bit t nodesMost j) ∙ ap (λ (b : Bool). eqb (asBit (b && t j)) 1) (lt-ltb j nodesMost l) ∙ go (t j)
+  where
+    go : (b : Bool) → eqb (asBit b) 1 ≡ b
+    go true = refl
+    go false = refl
+
+-- beyond its end a list has nothing
+past-end : {A : Type 0} (xs : List A) (j : ℕ) (d : A) → length xs ≤ j → getD xs j d ≡ d
+past-end [] j d l = refl
+past-end (x ∷ xs) zero d l = absurd (omega arith)
+past-end (x ∷ xs) (suc j) d l = past-end xs j d (omega arith)
+
+-- what stands in an outbox is what was put in
+pub sent-back : (m : List ℕ) → sentIn (outboxOf m) ≡ m
+sent-back m = take-at m (drop (length m) (replicate messageMost 0)) (length m) refl
+
+-- ---- before the opening
+
+pub starts : (hall : Hall) → unopened ≡ standing hall 0
+unfolding gather nodeBefore outbox
+starts hall =
+    let same : (i : ℕ) → stoodAt hall 0 i ≡ stoodOf nobody [] = λ i. go (correct hall i) in
+    let nodes : gather (λ (i : ℕ). nobody ∷ []) nodesMost ≡ standing hall 0 .nodes =
+    gather-same _ _ nodesMost (λ i l. ap (λ (x : Stood). x .node ∷ []) (sym (same i))) in
+    let outboxes : gather (λ (i : ℕ). outboxOf [] ∷ []) nodesMost ≡ standing hall 0 .outboxes =
+    gather-same _ _ nodesMost (λ i l. ap (λ (x : Stood). x .outbox ∷ []) (sym (same i))) in
+    λ k. record { next = 0; nodes = nodes k; outboxes = outboxes k }
+  where
+    go : (b : Bool) → cond b (stoodOf nobody []) (stoodOf nobody []) ≡ stoodOf nobody []
+    go true = refl
+    go false = refl
+
+-- ---- a run that stands somewhere
+
+module _ (hall : Hall) (here : Standing) where
+  pub stands-there : (k : ℕ) → here ≡ standing hall k → here ≡ standing hall (here .next)
+  stands-there k e = e ∙ ap (standing hall) (sym (ap (λ (x : Standing). x .next) e))
+
+  pub node-there : (k : ℕ) → here ≡ standing hall k → (i : ℕ) → i < nodesMost → nodeAt (here .nodes) i ≡ stoodAt hall k i .node
+  node-there k e i l = ap (λ (x : Standing). nodeAt (x .nodes) i) e ∙ each-at (λ (j : ℕ). stoodAt hall k j .node) _ nodesMost i l
+
+  pub outbox-there : (k : ℕ) → here ≡ standing hall k → (i : ℕ) → i < nodesMost → outboxAt (here .outboxes) i ≡ stoodAt hall k i .outbox
+  outbox-there k e i l = ap (λ (x : Standing). outboxAt (x .outboxes) i) e ∙ each-at (λ (j : ℕ). stoodAt hall k j .outbox) _ nodesMost i l
+
+-- ---- the run of a schedule of good form
+
+module _ (s : List ℕ) (n f : ℕ) (form : formOf s ≡ Good n f) where
+  abbrev hall : Hall
+  hall = hallOf s n f
+
+  abbrev told : Formed s n f
+  told = formed s n f form
+
+  head : Whole (linesOf s) (told .header)
+  head = header-told (linesOf s) (told .header) (told .read)
+
+  pub nodes-sized : sized n ≡ true
+  nodes-sized = subst (λ (m : ℕ). sized m ≡ true) (told .is-n) (head .nodes)
+
+  pub nodes-most : n ≤ nodesMost
+  nodes-most = sized-most n nodes-sized
+
+  pub nodes-above : 2 * f < n
+  nodes-above = omega (arith, head .half, told .is-n, told .is-f)
+
+  pub low : told .header .faulty < 2 ^ nodesMost
+  low = subst (λ (m : ℕ). m < 2 ^ nodesMost) (sym (head .mask)) (mask-below _ nodesMost)
+
+  pub few : told .header .n ≤ nodesMost
+  few = sized-most _ (head .nodes)
+
+  pub all-short : (r j i : ℕ) → length (messageFor s r j i) ≤ messageMost
+  all-short = given-short (told .header) low few (sendsOf s) (told .ranked)
+
+  pub send-fits : (k : ℕ) → k < length (sendsOf s) → Fitting (told .header) low few (sendAt (sendsOf s) k)
+  send-fits = fitting-at (told .header) low few (sendsOf s) (told .ranked)
+
+  pub send-last : (k : ℕ) → k < length (sendsOf s) → sendAt (sendsOf s) k .round ≤ f + 1
+  send-last k l = omega (arith, send-fits k l .last, told .is-f)
+
+  pub send-rounds : (k : ℕ) → k + 1 < length (sendsOf s) → sendAt (sendsOf s) k .round ≤ sendAt (sendsOf s) (k + 1) .round
+  send-rounds = rounds-rise (told .header) low few (sendsOf s) (told .ranked)
+
+  pub send-message : (k : ℕ) → k < length (sendsOf s)
+      → messageFor s (sendAt (sendsOf s) k .round) (sendAt (sendsOf s) k .from) (sendAt (sendsOf s) k .to) ≡ sendAt (sendsOf s) k .message
+  send-message = its-message (told .header) low few (sendsOf s) (told .ranked)
+
+  pub send-few : (k : ℕ) → k < length (sendsOf s) → k < (f + 2) * (nodesMost * nodesMost)
+  send-few k l = omega (arith, sends-few (told .header) low few (sendsOf s) (told .ranked) k l, told .is-f)
+
+  pub header-nodes : headerOf s .n ≡ n
+  unfolding headerAs
+  header-nodes = ap (λ (d : Headed). headerAs d .n) (told .read) ∙ told .is-n
+
+  -- what the run is given
+  given : Given n f (isFaulty s) (λ i. trayOf (entriesOfTray s i)) (λ r j i. messageFor s r j i) []
+  given = record {
+    nodes = nodes-sized;
+    above = nodes-above;
+    trays = λ i ci. of-is-sound (entriesOfTray s i) (tray-told _ (told .trays i (ci .node)) .batch);
+    entries = λ i ci. subst AreEntries (sym (of-entries (entriesOfTray s i))) (tray-told _ (told .trays i (ci .node)) .entries);
+    short = λ i j r ci fj b. omega (arith, all-short r j i);
+    bytes = λ i j r ci fj b. given-bytes (told .header) low few (sendsOf s) (told .ranked) r j i;
+  }
+
+  pub goes-on : (i : ℕ) → Correct hall i → Unhindered hall i
+  goes-on = unhindered n f (isFaulty s) (λ i. trayOf (entriesOfTray s i)) (λ r j i. messageFor s r j i) [] given
+
+  is-correct : (i : ℕ) → i < n → isFaulty s i ≡ false → correct hall i ≡ true
+  is-correct i l e = simp (lt-ltb i n l, e)
+
+  sends-short : (i k : ℕ) → i < n → length (sends hall i k) ≤ messageMost
+  sends-short i k l =
+      outbox-short n f i (hall .tray i) (hall .inbox i) (hall .room i) (majority n f i nodes-sized nodes-above ∙ lt-ltb i n l) k
+
+  module _ (faulty : ℕ) (mask : faulty ≡ maskOf (isFaulty s) nodesMost) (here : Standing) (stands : here ≡ standing hall (here .next)) where
+    -- a faulty node's bit
+    bit-is : (j : ℕ) → j < nodesMost → eqb (bit faulty j) 1 ≡ isFaulty s j
+    bit-is j l = ap (λ (m : ℕ). eqb (bit m j) 1) mask ∙ mask-tells (isFaulty s) j l
+
+    -- ---- every outbox is short
+
+    pub short-here : Short s (here .outboxes)
+    short-here = record { given = all-short; sent = λ j. ⊎-elim (λ l. within j l) (λ l. beyond j l) (lt-or-ge j nodesMost) }
+      where
+        size : (b : Bool) (j : ℕ) → correct hall j ≡ b → stoodAt hall (here .next) j .outbox .size ≤ messageMost
+        size true j e = rw e (sends-short j (here .next) (ltb-true j n (both (ltb j n) (not (isFaulty s j)) e .0)))
+        size false j e = rw e (omega arith)
+
+        within : (j : ℕ) → j < nodesMost → outboxAt (here .outboxes) j .size ≤ messageMost
+        within j l = subst (λ (o : Outbox). o .size ≤ messageMost) (sym (outbox-there hall here (here .next) stands j l)) (size (correct hall j) j refl)
+
+        beyond : (j : ℕ) → nodesMost ≤ j → outboxAt (here .outboxes) j .size ≤ messageMost
+        beyond j l =
+            let size : length (here .outboxes) ≡ nodesMost = ap (λ (x : Standing). length (x .outboxes)) stands ∙ each-length (λ (k : ℕ). stoodAt hall (here .next) k .outbox) nodesMost in
+            subst (λ (o : Outbox). o .size ≤ messageMost) (sym (past-end (here .outboxes) j _ (omega (arith, size)))) (omega arith)
+
+    -- ---- the inbox
+
+    module _ (i q : ℕ) (round : here .next ≡ suc q) where
+      same-message : (j : ℕ) → j < n
+          → messageTo s faulty (here .next) i j (outboxAt (here .outboxes) j) ≡ cond (eqb j i) [] (cond (isFaulty s j) (messageFor s (suc q) j i) (sends hall j (suc q)))
+      same-message j l = go (isFaulty s j) refl
+        where
+          most : j < nodesMost
+          most = omega (arith, nodes-most, l)
+
+          go : (b : Bool) → isFaulty s j ≡ b
+              → messageTo s faulty (here .next) i j (outboxAt (here .outboxes) j) ≡ cond (eqb j i) [] (cond (isFaulty s j) (messageFor s (suc q) j i) (sends hall j (suc q)))
+          go true e = rw (bit-is j most ∙ e, e, round)
+          go false e =
+              let o : outboxAt (here .outboxes) j ≡ outboxOf (sends hall j (suc q)) =
+              outbox-there hall here (suc q) (stands ∙ ap (standing hall) round) j most ∙ ap (λ (b : Bool). cond b (stoodOf (nodeBefore hall j (suc q)) (sends hall j (suc q))) (stoodOf nobody []) .outbox) (is-correct j l e) in
+              let m : sentIn (outboxAt (here .outboxes) j) ≡ sends hall j (suc q) = ap sentIn o ∙ sent-back (sends hall j (suc q)) in
+              ap (λ (b : Bool). cond (eqb j i) [] (cond b (messageFor s (here .next) j i) (sentIn (outboxAt (here .outboxes) j)))) (bit-is j most ∙ e)
+              ∙ ap (λ (x : List ℕ). cond (eqb j i) [] x) m
+              ∙ sym (ap (λ (b : Bool). cond (eqb j i) [] (cond b (messageFor s (suc q) j i) (sends hall j (suc q)))) e)
+
+      pub inbox-here : inboxTo s n faulty (here .next) i (here .outboxes) ≡ hall .inbox i (suc q)
+      inbox-here =
+          ap inboxBytes (gather-same _ _ n (λ j l. ap (λ (m : List ℕ). m ∷ []) (same-message j l)))
+          ∙ sym (inbox-is n f (isFaulty s) (λ j. trayOf (entriesOfTray s j)) (λ r j k. messageFor s r j k) [] i q)
+
+    -- ---- node i after the round that is next
+
+    module _ (i : ℕ) (node : i < nodesMost) where
+      abbrev after-it : Stood
+      after-it = stoodAt hall (here .next + 1) i
+
+      pub beyond-all : (x : Stood) → n ≤ i → x ≡ stoodOf nobody [] → x ≡ after-it
+      beyond-all x l e = e ∙ sym (simp (le-ltb i n l))
+
+      pub is-faulty : (x : Stood) → i < n → bit faulty i ≡ 1 → x ≡ stoodOf nobody [] → x ≡ after-it
+      is-faulty x l b e = e ∙ sym (simp (lt-ltb i n l, sym (bit-is i node) ∙ eq-eqb (bit faulty i) 1 b))
+
+      module _ (l : i < n) (b : bit faulty i ≢ 1) where
+        fine : isFaulty s i ≡ false
+        fine = sym (bit-is i node) ∙ ne-eqb (bit faulty i) 1 b
+
+        stood-next : (q : ℕ) → here .next ≡ q → after-it ≡ stoodOf (nodeAfter hall i q) (sends hall i (suc q))
+        unfolding nodeBefore
+        stood-next q e =
+            let k : here .next + 1 ≡ suc q = ap (λ (x : ℕ). x + 1) e ∙ add-one q in
+            ap (λ (x : ℕ). stoodAt hall x i) k ∙ simp (is-correct i l fine)
+
+        pub opens : (x : Stood) → here .next ≡ 0 → x ≡ stoodOf (nodeAfter hall i 0) (sends hall i 1) → x ≡ after-it
+        opens x z e = e ∙ sym (stood-next 0 z)
+
+        pub steps : (x : Stood) → here .next ≢ 0 → x ≡ steppedTo (nodeAt (here .nodes) i) (inboxTo s n faulty (here .next) i (here .outboxes)) → x ≡ after-it
+        unfolding after outbox nodeBefore
+        steps x z e = go (here .next) refl
+          where
+            go : (q : ℕ) → here .next ≡ q → x ≡ after-it
+            go zero k = absurd (z k)
+            go (suc q) k =
+                let same : nodeAt (here .nodes) i ≡ nodeAfter hall i q =
+                node-there hall here (suc q) (stands ∙ ap (standing hall) k) i node ∙ ap (λ (t : Bool). cond t (stoodOf (nodeBefore hall i (suc q)) (sends hall i (suc q))) (stoodOf nobody []) .node) (is-correct i l fine) in
+                e ∙ ap₂ steppedTo same (inbox-here i q k) ∙ sym (stood-next (suc q) k)

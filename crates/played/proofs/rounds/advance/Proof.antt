@@ -1,0 +1,103 @@
+-- Before turn i the places below i hold the nodes after the round.
+use Prim.Native.Nat.{_+_, _-_, _≤_}
+use mathlib.Core.Path.{_≡_, refl, ap, _∙_}
+use mathlib.Core.List.{[]}
+use native.Mathlib.Omega.{arith}
+use denote.Ref.{now}
+use lib.ListN.{length, length-set}
+use Rattle.rules.specs.Sizes.{nodesMost}
+use Rattle.played.specs.Inboxes.{outboxOf}
+use Rattle.played.specs.Standing.{nobody, stoodAt}
+use Rattle.played.specs.Playing.{hallOf}
+use Rattle.played.specs.declared.Standing.{Standing}
+use Rattle.played.specs.declared.Stood.{Stood}
+use Rattle.played.proofs.Filled.{Filled, one-filled, all-filled}
+use Rattle.played.proofs.Standings.{nodes-above, nodes-most}
+use borrow.Author.Needs.{needs}
+use Rattle.played.proofs.rounds.advance.Statement.{statement}
+use Rattle.played.proofs.rounds.advance.Tie as tie
+
+abbrev Inv-loop : tie.InvT-loop
+Inv-loop s n f faulty here nodes₀ outboxes₀ i₀ nodes outboxes i =
+    (i ≤ nodesMost) × (length nodes ≡ nodesMost) × (length outboxes ≡ nodesMost)
+    × Filled nobody (λ j. stoodAt (hallOf s n f) (here .next + 1) j .node) nodes i
+    × Filled (outboxOf []) (λ j. stoodAt (hallOf s n f) (here .next + 1) j .outbox) outboxes i
+
+abbrev μ-loop : tie.MeasureT-loop
+μ-loop s n f faulty here nodes₀ outboxes₀ i₀ nodes outboxes i = nodesMost - i
+
+start-requires : tie.Need-start-requires Inv-loop μ-loop
+start-requires c κs = search needs
+
+loop-holds : tie.Need-loop-holds Inv-loop μ-loop
+loop-holds c =
+    let e = c .before .before .start .ensures in
+    (omega arith, ap (λ (x : Standing). length (x .nodes)) e, ap (λ (x : Standing). length (x .outboxes)) e, λ j l. absurd (omega arith), λ j l. absurd (omega arith))
+
+next-node-requires : tie.Need-next-node-requires Inv-loop μ-loop
+next-node-requires c κs =
+    let p = c .before .before .before .before .before .before .pre in
+    (omega arith, p .0, p .1, p .2, p .3)
+
+mul-nodes : tie.Need-mul-nodes Inv-loop μ-loop
+mul-nodes c = search needs
+
+array-set-from-nodes : tie.Need-array-set-from-nodes Inv-loop μ-loop
+array-set-from-nodes c = search needs
+
+mul-outboxes : tie.Need-mul-outboxes Inv-loop μ-loop
+mul-outboxes c = search needs
+
+array-set-from-outboxes : tie.Need-array-set-from-outboxes Inv-loop μ-loop
+array-set-from-outboxes c = search needs
+
+add-i : tie.Need-add-i Inv-loop μ-loop
+add-i c = search needs
+
+loop-less : tie.Need-loop-less Inv-loop μ-loop
+loop-less c = search needs
+
+loop-again : tie.Need-loop-again Inv-loop μ-loop
+loop-again c =
+    let l = c .before .before .before .before .loop in
+    let e = c .before .before .next-node .ensures in (
+      omega arith,
+      length-set (l .nodes) (l .i) _ ∙ l .inv .1,
+      length-set (l .outboxes) (l .i) _ ∙ l .inv .2,
+      one-filled _ _ (l .nodes) (l .i) _ (omega (arith, l .inv .1)) (ap (λ (x : Stood). x .node) e) (l .inv .3),
+      one-filled _ _ (l .outboxes) (l .i) _ (omega (arith, l .inv .2)) (ap (λ (x : Stood). x .outbox) e) (l .inv .4),
+    )
+
+add-t19 : tie.Need-add-t19 Inv-loop μ-loop
+add-t19 c =
+    let a = c .before .before .before .before .before .before .before .args in
+    let p = c .before .before .before .before .before .before .before .pre in
+    record { fits = omega (arith, p .3, nodes-above (now (a .s)) (a .n) (a .f) (p .0), nodes-most (now (a .s)) (a .n) (a .f) (p .0)) }
+
+returns : tie.Need-returns Inv-loop μ-loop
+returns c =
+    let a = c .before .before .before .before .before .before .before .args in
+    let l = c .before .before .loop in
+    let all : l .i ≡ nodesMost = omega arith in
+    let nodes = all-filled _ _ (l .nodes) nodesMost (l .inv .1) (rw all at (l .inv .3)) in
+    let outboxes = all-filled _ _ (l .outboxes) nodesMost (l .inv .2) (rw all at (l .inv .4)) in
+    λ k. record { next = a .here .next + 1; nodes = nodes k; outboxes = outboxes k }
+
+pub advance-spec : {M : Type 1} → statement M
+advance-spec =
+    tie.close
+    (tie.spec
+    Inv-loop
+    μ-loop
+    start-requires
+    loop-holds
+    next-node-requires
+    mul-nodes
+    array-set-from-nodes
+    mul-outboxes
+    array-set-from-outboxes
+    add-i
+    loop-less
+    loop-again
+    add-t19
+    returns)
