@@ -1,2 +1,5 @@
 pub mod Made
 pub mod Numbering
+pub mod Speaking
+pub mod Counting
+pub mod Printing

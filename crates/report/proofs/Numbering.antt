@@ -8,11 +8,12 @@ use native.Mathlib.Nat.{not-suc-le-zero, le-of-suc-le-suc, eq-or-lt-of-le}
 use native.Mathlib.Numerals.{add-one}
 use native.Mathlib.Omega.{arith}
 use borrow.Author.Tests.{not-true}
-use lib.ListN.{length, getD, set, length-append}
+use lib.ListN.{length, getD, set, length-append, length-set}
 use lib.Seq.{getD-set-same, getD-set-other}
 use Rattle.laws.specs.Members.{same, among}
 use Rattle.laws.proofs.Members.{same-eq, same-self}
 use Rattle.laws.proofs.Tests.{both, clash, neither}
+use Rattle.rules.specs.Sizes.{nodesMost}
 use Rattle.report.specs.Marks.{placeIn, distinct}
 use Rattle.report.specs.Signing.{hasBit}
 use Rattle.report.specs.Held.{Numbered, FirstAlike}
@@ -123,6 +124,7 @@ module _ (t : ℕ → Bool) (log : ℕ → List ℕ) where
     faulty-numbered e =
         let d : distinct t log i ≡ distinct t log (i + 1) = sym (faulty-adds-none i e) in
         record {
+          places = h .places;
           count = h .count ∙ ap length d;
           each = λ j l f. h .each j (below j l f) f ∙ ap (placeIn (log j)) d;
         }
@@ -130,16 +132,20 @@ module _ (t : ℕ → Bool) (log : ℕ → List ℕ) where
         below : (j : ℕ) → j < i + 1 → t j ≡ false → j < i
         below j l f = ⊎-elim (λ q. absurd (clash e (ap t (sym q) ∙ f))) (λ k. k) (eq-or-lt-of-le (le-of-suc-le-suc (rw (sym (add-one i)) l)))
 
-    module _ (f : t i ≡ false) (places : i < length (x .of)) where
+    module _ (f : t i ≡ false) (most : i < nodesMost) where
+      within : i < length (x .of)
+      within = omega (arith, h .places)
+
       -- node i has the log of node k, and its number
       pub old-numbered : (k : ℕ) → FirstAlike t log i k → k < i → Numbered t log (i + 1) (record { count = x .count; of = set (x .of) i (getD (x .of) k 0) })
       old-numbered k a l =
           let e : log i ≡ log k = a .alike l in
           let d : distinct t log i ≡ distinct t log (i + 1) = sym (held-adds-none i (ap (λ (y : List ℕ). among y (distinct t log i)) e ∙ its-among i k l (a .correct l))) in
           record {
+            places = length-set (x .of) i _ ∙ h .places;
             count = h .count ∙ ap length d;
             each = λ j m g. ⊎-elim
-              (λ q. rw q (getD-set-same (x .of) i _ 0 places ∙ h .each k l (a .correct l) ∙ ap (λ (y : List ℕ). placeIn y (distinct t log i)) (sym e) ∙ ap (placeIn (log i)) d))
+              (λ q. rw q (getD-set-same (x .of) i _ 0 within ∙ h .each k l (a .correct l) ∙ ap (λ (y : List ℕ). placeIn y (distinct t log i)) (sym e) ∙ ap (placeIn (log i)) d))
               (λ q. let ne : j ≢ i = λ z. omega arith in getD-set-other (x .of) i j _ 0 ne ∙ h .each j q g ∙ ap (placeIn (log j)) d)
               (eq-or-lt-of-le (le-of-suc-le-suc (rw (sym (add-one i)) m)));
           }
@@ -151,17 +157,18 @@ module _ (t : ℕ → Bool) (log : ℕ → List ℕ) where
           let none : among (log i) (distinct t log i) ≡ false = none-among (log i) i (a .none z) in
           let d : distinct t log (i + 1) ≡ distinct t log i ++ (log i ∷ []) = new-adds-one i f none in
           record {
+            places = length-set (x .of) i _ ∙ h .places;
             count = omega (arith, h .count, ap length d, length-append (distinct t log i) (log i ∷ []));
             each = λ j m g. ⊎-elim
-              (λ q. rw q (getD-set-same (x .of) i c 0 places ∙ ce ∙ h .count ∙ sym (ap (placeIn (log i)) d ∙ place-next (log i) (distinct t log i) none)))
+              (λ q. rw q (getD-set-same (x .of) i c 0 within ∙ ce ∙ h .count ∙ sym (ap (placeIn (log i)) d ∙ place-next (log i) (distinct t log i) none)))
               (λ q. let ne : j ≢ i = λ y. omega arith in
                 getD-set-other (x .of) i j c 0 ne ∙ h .each j q g ∙ sym (ap (placeIn (log j)) d ∙ place-kept (log j) (distinct t log i) (log i ∷ []) (its-among i j q g)))
               (eq-or-lt-of-le (le-of-suc-le-suc (rw (sym (add-one i)) m)));
           }
 
-  pub none-numbered : (places : List ℕ) → Numbered t log 0 (record { count = 0; of = places })
+  pub none-numbered : (places : List ℕ) → length places ≡ nodesMost → Numbered t log 0 (record { count = 0; of = places })
   unfolding distinct
-  none-numbered places = record { count = refl; each = λ j l. absurd (not-suc-le-zero l) }
+  none-numbered places l = record { places = l; count = refl; each = λ j l. absurd (not-suc-le-zero l) }
 
 -- ---- the first node alike
 

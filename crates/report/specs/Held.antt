@@ -6,6 +6,7 @@ use mathlib.Core.List.{List, []}
 use lib.ListN.{length, getD, take, replicate}
 use Rattle.laws.specs.Members.{same}
 use Rattle.laws.specs.Parts.{onto}
+use Rattle.rules.specs.Sizes.{nodesMost}
 use Rattle.closing.specs.Gather.{decidedMost}
 use Rattle.report.specs.Marks.{distinct, placeIn}
 use Rattle.report.specs.Signing.{nodesThat}
@@ -35,6 +36,7 @@ AllHeld faulty log n logs = (j : ℕ) → j < n → faulty j ≡ false → heldA
 
 -- the logs of the correct nodes below n are numbered
 pub record Numbered (faulty : ℕ → Bool) (log : ℕ → List ℕ) (n : ℕ) (x : Numbers) : Type 0 where
+  pub places : length (x .of) ≡ nodesMost
   pub count : x .count ≡ length (distinct faulty log n)
   pub each : (j : ℕ) → j < n → faulty j ≡ false → getD (x .of) j 0 ≡ placeIn (log j) (distinct faulty log n)
 

@@ -7,6 +7,8 @@ use Rattle.report.proofs.marks.with_number.Reads as with-number-reads
 use Prim.Native.Nat.{_-_, _≤_}
 use mathlib.Core.Path.{_≡_, refl, subst}
 use native.Mathlib.Omega.{arith}
+use lib.ListN.{replicate}
+use Rattle.rules.specs.Sizes.{nodesMost}
 use Rattle.report.specs.Signing.{hasBit}
 use Rattle.report.specs.Held.{heldAt, logIn, Numbered}
 use Rattle.report.proofs.Numbering.{none-numbered}
@@ -19,7 +21,7 @@ abbrev μ-loop : tie.MeasureT-loop
 
 loop-holds : tie.Need-loop-holds Inv-loop μ-loop
 loop-holds c =
-  (omega arith, none-numbered (hasBit (c .args .faulty)) (λ j. logIn (heldAt (c .args .logs) j)) _)
+  (omega arith, none-numbered (hasBit (c .args .faulty)) (λ j. logIn (heldAt (c .args .logs) j)) (replicate nodesMost 0) refl)
 
 with-number-requires : tie.Need-with-number-requires Inv-loop μ-loop
 with-number-requires c κs =

@@ -4,36 +4,45 @@ use Rattle.report.proofs.signers.nodes_in.Tie as tie
 use Rattle.report.proofs.signers.nodes_in.Reads as reads
 use Rattle.report.proofs.signers.nodes_in.Lts as lts
 use Rattle.report.proofs.signers.with_node.Reads as with-node-reads
+use Prim.Native.Nat.{_-_, _≤_}
+use mathlib.Core.Path.{_≡_, refl, subst}
+use native.Mathlib.Omega.{arith}
+use lib.ListN.{replicate}
+use Rattle.rules.specs.Sizes.{nodesMost}
+use Rattle.report.specs.Signing.{hasBit}
+use Rattle.report.specs.Held.{Lists}
+use Rattle.report.proofs.Counting.{none-listed}
 
 abbrev Inv-loop : tie.InvT-loop
-Inv-loop n mask listing₀ j₀ listing j = ?
+Inv-loop n mask listing₀ j₀ listing j = (j ≤ n) × Lists (hasBit mask) j listing
 
 abbrev μ-loop : tie.MeasureT-loop
-μ-loop n mask listing₀ j₀ listing j = ?
+μ-loop n mask listing₀ j₀ listing j = n - j
 
--- src/signers.rt:55:5
 loop-holds : tie.Need-loop-holds Inv-loop μ-loop
-loop-holds c = search needs
+loop-holds c =
+  (omega arith, none-listed (hasBit (c .args .mask)) (replicate nodesMost 0))
 
--- src/signers.rt:56:13
 with-node-requires : tie.Need-with-node-requires Inv-loop μ-loop
-with-node-requires c κs = search needs
+with-node-requires c κs =
+  (omega arith, c .before .loop .inv .1)
 
--- src/signers.rt:58:9
 add-j : tie.Need-add-j Inv-loop μ-loop
 add-j c = search needs
 
--- src/signers.rt:55:5
 loop-less : tie.Need-loop-less Inv-loop μ-loop
 loop-less c = search needs
 
--- src/signers.rt:55:5
 loop-again : tie.Need-loop-again Inv-loop μ-loop
-loop-again c = search needs
+loop-again c =
+  (omega arith, c .with-node .ensures)
 
--- src/signers.rt:46:1
 returns : tie.Need-returns Inv-loop μ-loop
-returns c = search needs
+returns c =
+  let a = c .before .before .args in
+  let l = c .before .loop in
+  let all : l .j ≡ a .n = omega arith in
+  subst (λ j. Lists (hasBit (a .mask)) j (l .listing)) all (l .inv .1)
 
 pub nodes-in-spec : {M : Type 1} → statement M
 nodes-in-spec =

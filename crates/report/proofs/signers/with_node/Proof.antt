@@ -4,30 +4,33 @@ use Rattle.report.proofs.signers.with_node.Tie as tie
 use Rattle.report.proofs.signers.with_node.Reads as reads
 use Rattle.report.proofs.signers.with_node.Lts as lts
 use Rattle.report.proofs.logs.has_bit.Reads as has-bit-reads
+use mathlib.Core.Path.{sym, _∙_}
+use native.Mathlib.Omega.{arith}
+use borrow.Author.Tests.{not-true, not-false}
+use Rattle.report.specs.Signing.{hasBit}
+use Rattle.report.proofs.Counting.{not-listed, one-listed}
 
--- src/signers.rt:33:9
 has-bit-requires : tie.Need-has-bit-requires
 has-bit-requires c κs = search needs
 
--- src/signers.rt:34:9
 returns : tie.Need-returns
-returns c = search needs
+returns c =
+  let s = c .before .before in
+  not-listed (hasBit (s .args .mask)) (s .args .j) (s .args .listing) (s .pre .1) (sym (c .before .has-bit .ensures) ∙ not-true _ (c .if1 .taken))
 
--- src/signers.rt:38:5
 mul-nodes : tie.Need-mul-nodes
 mul-nodes c = search needs
 
--- src/signers.rt:38:5
 array-write-nodes : tie.Need-array-write-nodes
 array-write-nodes c = search needs
 
--- src/signers.rt:40:16
 add-t9 : tie.Need-add-t9
 add-t9 c = search needs
 
--- src/signers.rt:29:1
 returns-2 : tie.Need-returns-2
-returns-2 c = search needs
+returns-2 c =
+  let s = c .before .before .before in
+  one-listed (hasBit (s .args .mask)) (s .args .j) (s .args .listing) (s .pre .1) (sym (c .before .before .has-bit .ensures) ∙ not-false _ (c .before .if1 .left)) (omega arith)
 
 pub with-node-spec : {M : Type 1} → statement M
 with-node-spec =

@@ -6,72 +6,87 @@ use Rattle.report.proofs.slots.put_slots.Lts as lts
 use Rattle.print.proofs.put_bytes.Reads as put-bytes-reads
 use Rattle.report.proofs.logs.has_bit.Reads as has-bit-reads
 use Rattle.report.proofs.slots.slot_of.Reads as slot-of-reads
+use Prim.Native.Nat.{_*_, _-_, _≤_}
+use mathlib.Core.Path.{_≡_, refl, sym, ap, ap₂, _∙_}
+use mathlib.Core.List.{List, _++_}
+use native.Mathlib.Omega.{arith}
+use denote.Ref.{now}
+use lib.ListN.{length, getD, drop}
+use Rattle.laws.specs.Parts.{onto}
+use Rattle.signing.specs.Slots.{slotSize}
+use Rattle.report.specs.Marks.{markWith}
+use Rattle.report.specs.Spoken.{slotWith, slotsWith}
+use Rattle.report.specs.Signing.{hasBit}
+use Rattle.report.proofs.Speaking.{mark-size, slots-size, none-spoken, next-spoken, all-spoken}
 
 abbrev Inv-loop : tie.InvT-loop
-Inv-loop n faulty output₀ numbers j₀ output j = ?
+Inv-loop n faulty output₀ numbers j₀ output j =
+    (j ≤ n) × (length output ≡ length output₀) × (output ≡ slotsWith (hasBit faulty) (λ i. markWith (getD numbers i 0)) j ++ drop (slotSize * j) output₀)
 
 abbrev μ-loop : tie.MeasureT-loop
-μ-loop n faulty output₀ numbers j₀ output j = ?
+μ-loop n faulty output₀ numbers j₀ output j = n - j
 
--- src/slots.rt:39:5
 loop-holds : tie.Need-loop-holds Inv-loop μ-loop
-loop-holds c = search needs
+loop-holds c =
+  let a = c .before .args in
+  (omega arith, refl, none-spoken (hasBit (a .faulty)) (λ j. markWith (getD (a .t3) j 0)) (λ j. mark-size (getD (a .t3) j 0)) (now (a .output)))
 
--- src/slots.rt:40:28
 has-bit-requires : tie.Need-has-bit-requires Inv-loop μ-loop
 has-bit-requires c κs = search needs
 
--- src/slots.rt:40:48
 array-read-slot-of : tie.Need-array-read-slot-of Inv-loop μ-loop
 array-read-slot-of c = search needs
 
--- src/slots.rt:40:20
 slot-of-requires : tie.Need-slot-of-requires Inv-loop μ-loop
 slot-of-requires c κs = search needs
 
--- src/slots.rt:41:38
 mul-put-bytes : tie.Need-mul-put-bytes Inv-loop μ-loop
 mul-put-bytes c = search needs
 
--- src/slots.rt:41:26
 sub-put-bytes : tie.Need-sub-put-bytes Inv-loop μ-loop
-sub-put-bytes c = search needs
+sub-put-bytes c =
+  let s = c .before .before .before .before .before in
+  omega (arith, c .before .before .before .loop .inv .1, s .pre .1)
 
--- src/slots.rt:41:26
 part-put-bytes-start : tie.Need-part-put-bytes-start Inv-loop μ-loop
-part-put-bytes-start c = search needs
+part-put-bytes-start c =
+  let s = c .before .before .before .before .before in
+  omega (arith, c .before .before .before .loop .inv .1, s .pre .1)
 
--- src/slots.rt:41:26
 part-put-bytes-end : tie.Need-part-put-bytes-end Inv-loop μ-loop
 part-put-bytes-end c = search needs
 
--- src/slots.rt:41:9
 put-bytes-requires : tie.Need-put-bytes-requires Inv-loop μ-loop
 put-bytes-requires c κs = search needs
 
--- src/slots.rt:42:9
 add-j : tie.Need-add-j Inv-loop μ-loop
 add-j c = search needs
 
--- src/slots.rt:39:5
 loop-less : tie.Need-loop-less Inv-loop μ-loop
 loop-less c = search needs
 
--- src/slots.rt:39:5
 loop-again : tie.Need-loop-again Inv-loop μ-loop
-loop-again c = search needs
+loop-again c =
+  let s = c .before .before .before .before .before .before .before .before .before .before .before .before in
+  let l = c .before .before .before .before .before .before .before .before .before .before .loop in
+  let a = s .args in
+  let slot = c .before .before .before .before .before .before .before .slot-of .ensures ∙ ap (λ b. slotWith b (markWith (getD (a .t3) (l .j) 0))) (c .before .before .before .before .before .before .before .before .has-bit .ensures) in
+  (omega arith, search needs, next-spoken (hasBit (a .faulty)) (λ j. markWith (getD (a .t3) j 0)) (λ j. mark-size (getD (a .t3) j 0)) (now (a .output)) (l .output) (a .n) (l .j) (omega arith) (s .pre .1) (l .inv .2) _ slot (l .inv .1) _ _ (c .before .before .put-bytes .ensures))
 
--- src/slots.rt:44:5
 mul-result : tie.Need-mul-result Inv-loop μ-loop
-mul-result c = search needs
+mul-result c =
+  let s = c .before .before .before in
+  omega (arith, s .pre .0)
 
--- src/slots.rt:34:1
 same-length : tie.Need-same-length Inv-loop μ-loop
-same-length c = search needs
+same-length c =
+  c .before .loop .inv .1
 
--- src/slots.rt:34:1
 returns : tie.Need-returns Inv-loop μ-loop
-returns c = search needs
+returns c =
+  let a = c .before .before .before .args in
+  let l = c .before .loop in
+  (refl, all-spoken (hasBit (a .faulty)) (λ j. markWith (getD (a .t3) j 0)) (λ j. mark-size (getD (a .t3) j 0)) (now (a .output)) (l .output) (a .n) (l .j) (omega arith) (l .inv .2))
 
 pub put-slots-spec : {M : Type 1} → statement M
 put-slots-spec =
