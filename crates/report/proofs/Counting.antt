@@ -5,8 +5,9 @@ use mathlib.Core.Bool.{Bool, true, false, cond}
 use mathlib.Core.List.{List, [], _∷_, _++_, append-nil}
 use native.Mathlib.Numerals.{add-one}
 use native.Mathlib.Omega.{arith}
-use lib.ListN.{length, take, set}
+use lib.ListN.{length, take, set, length-set}
 use lib.Seq.{take-suc-set}
+use Rattle.rules.specs.Sizes.{nodesMost}
 use Rattle.rules.specs.Step.{gather}
 use Rattle.report.specs.Signing.{nodesThat}
 use Rattle.report.specs.Held.{Lists}
@@ -21,16 +22,17 @@ module _ (t : ℕ → Bool) where
   unfolding nodesThat gather
   taken-up j e = rw (add-one j) (simp e)
 
-  pub none-listed : (places : List ℕ) → Lists t 0 (record { count = 0; nodes = places })
+  pub none-listed : (places : List ℕ) → length places ≡ nodesMost → Lists t 0 (record { count = 0; nodes = places })
   unfolding nodesThat gather
-  none-listed places = record { few = omega arith; are = refl }
+  none-listed places l = record { places = l; few = omega arith; are = refl }
 
   module _ (j : ℕ) (x : Listing) (h : Lists t j x) where
     pub not-listed : t j ≡ false → Lists t (j + 1) x
-    not-listed e = record { few = omega (arith, h .few); are = h .are ∙ passed-over j e }
+    not-listed e = record { places = h .places; few = omega (arith, h .few); are = h .are ∙ passed-over j e }
 
-    pub one-listed : t j ≡ true → x .count < length (x .nodes) → Lists t (j + 1) (record { count = x .count + 1; nodes = set (x .nodes) (x .count) j })
+    pub one-listed : t j ≡ true → j < nodesMost → Lists t (j + 1) (record { count = x .count + 1; nodes = set (x .nodes) (x .count) j })
     one-listed e l = record {
+      places = length-set (x .nodes) (x .count) j ∙ h .places;
       few = omega (arith, h .few);
-      are = rw (add-one (x .count)) (take-suc-set (x .nodes) (x .count) j l) ∙ ap (λ (y : List ℕ). y ++ (j ∷ [])) (h .are) ∙ taken-up j e;
+      are = rw (add-one (x .count)) (take-suc-set (x .nodes) (x .count) j (omega (arith, h .few, h .places))) ∙ ap (λ (y : List ℕ). y ++ (j ∷ [])) (h .are) ∙ taken-up j e;
     }

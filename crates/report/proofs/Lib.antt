@@ -3,3 +3,5 @@ pub mod Numbering
 pub mod Speaking
 pub mod Counting
 pub mod Printing
+pub mod Alike
+pub mod Whole

@@ -1,6 +1,6 @@
 -- Text written after text, and lines after lines.
 use Prim.Native.Nat.{ℕ, zero, suc, _+_, _-_, _≤_, _<_}
-use mathlib.Core.Path.{_≡_, refl, sym, ap, _∙_}
+use mathlib.Core.Path.{_≡_, refl, sym, ap, subst, _∙_}
 use mathlib.Core.Bool.{Bool, true, false, cond}
 use mathlib.Core.List.{List, [], _∷_, _++_, append-assoc, append-nil}
 use native.Mathlib.Numerals.{add-one}
@@ -14,6 +14,7 @@ use Rattle.laws.proofs.Lent.{comes-back}
 use Rattle.rules.specs.Step.{gather}
 use Rattle.print.specs.Texts.{lineText}
 use Rattle.text.specs.Put.{roomFor, Put}
+use Rattle.report.specs.Signing.{hasBit, nodesThat}
 use Rattle.report.specs.Lines.{Line, linesText, nodeLines, allLines}
 use Rattle.report.specs.Report.{Writes}
 
@@ -33,6 +34,10 @@ put-writes w text r after p = record {
     go false e =
         let a : r ≡ 0 = p .answers ∙ simp e in
         omega arith
+
+-- the same text by another name
+pub writes-as : (v w text : List ℕ) (r : ℕ) (after : List ℕ) → v ≡ w → Writes v text r after → Writes w text r after
+writes-as v w text r after e h = subst (λ x. Writes x text r after) e h
 
 pub writes-none : (text : List ℕ) → Writes [] text 0 text
 writes-none text = record { within = omega arith; answers = λ h. refl; leaves = λ h. refl }
@@ -86,6 +91,15 @@ unfolding linesText
 three-lines l m k =
     append-assoc (lineText (l .key) (l .value)) (lineText (m .key) (m .value)) (lineText (k .key) (k .value))
     ∙ ap (λ (s : List ℕ). lineText (l .key) (l .value) ++ (lineText (m .key) (m .value) ++ s)) (sym (append-nil (lineText (k .key) (k .value))))
+
+-- nothing of a faulty node is printed, of a correct one its lines
+pub faulty-prints-none : (faulty i : ℕ) (ls : List Line) → hasBit faulty i ≡ true → [] ≡ linesText (cond (hasBit faulty i) [] ls)
+unfolding linesText
+faulty-prints-none faulty i ls e = simp e
+
+pub correct-prints : (faulty i n : ℕ) (log : List ℕ) (mask counted : ℕ) → mask ≡ counted → hasBit faulty i ≡ false
+    → linesText (nodeLines i log (nodesThat (hasBit mask) n)) ≡ linesText (cond (hasBit faulty i) [] (nodeLines i log (nodesThat (hasBit counted) n)))
+correct-prints faulty i n log mask counted m e = simp e (ap (λ (k : ℕ). linesText (nodeLines i log (nodesThat (hasBit k) n))) m)
 
 -- the lines of the nodes below i, and of node i
 module _ (t : ℕ → Bool) (log signers : ℕ → List ℕ) where

@@ -42,6 +42,7 @@ pub record Numbered (faulty : ℕ → Bool) (log : ℕ → List ℕ) (n : ℕ) (
 
 -- the nodes below n that pass the test stand in the first places
 pub record Lists (t : ℕ → Bool) (n : ℕ) (x : Listing) : Type 0 where
+  pub places : length (x .nodes) ≡ nodesMost
   pub few : x .count ≤ n
   pub are : take (x .count) (x .nodes) ≡ nodesThat t n
 

@@ -6,30 +6,39 @@ use Rattle.report.proofs.lines.put_correct.Lts as lts
 use Rattle.report.proofs.lines.put_node.Reads as put-node-reads
 use Rattle.report.proofs.logs.has_bit.Reads as has-bit-reads
 use Rattle.report.proofs.signers.counted.Reads as counted-reads
+use mathlib.Core.Path.{sym, ap, _∙_}
+use mathlib.Core.Bool.{cond}
+use native.Mathlib.Omega.{arith}
+use denote.Ref.{now}
+use Rattle.report.specs.Marks.{markWith}
+use Rattle.report.specs.Signing.{hasBit, nodesThat, countedWith}
+use Rattle.report.specs.Lines.{nodeLines}
+use Rattle.report.specs.Held.{logIn}
+use Rattle.report.proofs.Printing.{writes-as, writes-none, faulty-prints-none, correct-prints}
 
--- src/lines.rt:69:8
 has-bit-requires : tie.Need-has-bit-requires
 has-bit-requires c κs = search needs
 
--- src/lines.rt:70:9
 returns : tie.Need-returns
-returns c = search needs
+returns c =
+  let a = c .before .before .before .before .args in
+  writes-as _ _ _ _ _ (faulty-prints-none (a .faulty) (a .i) (nodeLines (a .i) (logIn (a .log)) (nodesThat (hasBit (countedWith (a .n) (a .f) (a .i) (markWith (a .number)) (now (a .slots)))) (a .n))) (sym (c .before .has-bit .ensures) ∙ c .if1 .taken)) (writes-none (now (a .text)))
 
--- src/lines.rt:72:9
 counted-requires : tie.Need-counted-requires
 counted-requires c κs = search needs
 
--- src/lines.rt:73:5
 put-node-requires : tie.Need-put-node-requires
-put-node-requires c κs = search needs
+put-node-requires c κs =
+  let s = c .before .before .before .before .before .before in
+  (s .pre .0, s .pre .2 (sym (c .before .before .before .has-bit .ensures) ∙ c .before .before .if1 .left))
 
--- src/lines.rt:65:1
 same-length : tie.Need-same-length
 same-length c = search needs
 
--- src/lines.rt:65:1
 returns-2 : tie.Need-returns-2
-returns-2 c = search needs
+returns-2 c =
+  let a = c .before .before .before .before .before .before .before .before .before .args in
+  writes-as _ _ _ _ _ (correct-prints (a .faulty) (a .i) (a .n) (logIn (a .log)) _ _ (c .before .before .before .before .counted .ensures) (sym (c .before .before .before .before .before .before .has-bit .ensures) ∙ c .before .before .before .before .before .if1 .left)) (c .before .before .put-node .ensures)
 
 pub put-correct-spec : {M : Type 1} → statement M
 put-correct-spec =

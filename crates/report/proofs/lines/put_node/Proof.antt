@@ -6,62 +6,76 @@ use Rattle.report.proofs.lines.put_node.Lts as lts
 use Rattle.print.proofs.put_number_line.Reads as put-number-line-reads
 use Rattle.report.proofs.lines.put_log.Reads as put-log-reads
 use Rattle.report.proofs.lines.put_signers.Reads as put-signers-reads
+use native.Mathlib.Omega.{arith}
+use denote.Ref.{now}
+use Rattle.report.proofs.Printing.{put-writes, writes-as, sum-within, writes-both, three-lines}
 
--- src/lines.rt:57:42
 slice-aggregate-put-number-line : tie.Need-slice-aggregate-put-number-line
 slice-aggregate-put-number-line c = search needs
 
--- src/lines.rt:57:9
 put-number-line-requires : tie.Need-put-number-line-requires
 put-number-line-requires c κs = search needs
 
--- src/lines.rt:58:21
 sub-put-log : tie.Need-sub-put-log
-sub-put-log c = search needs
+sub-put-log c =
+  let a = c .before .before .put-number-line in
+  omega (arith, put-writes _ _ _ _ (a .ensures) .within, a .kept .0)
 
--- src/lines.rt:58:21
 part-put-log-start : tie.Need-part-put-log-start
-part-put-log-start c = search needs
+part-put-log-start c =
+  let a = c .before .before .put-number-line in
+  omega (arith, put-writes _ _ _ _ (a .ensures) .within, a .kept .0)
 
--- src/lines.rt:58:21
 part-put-log-end : tie.Need-part-put-log-end
 part-put-log-end c = search needs
 
--- src/lines.rt:58:9
 put-log-requires : tie.Need-put-log-requires
-put-log-requires c κs = search needs
+put-log-requires c κs =
+  c .before .before .before .before .before .before .before .before .before .pre .1
 
--- src/lines.rt:59:14
 add-at : tie.Need-add-at
-add-at c = search needs
+add-at c =
+  let a = c .before .before .before .before .before .before .before .before .put-number-line in
+  let b = c .before .before .put-log in
+  omega (arith, sum-within _ _ _ (a .result) (a .last .0) (put-writes _ _ _ _ (a .ensures)) (a .kept .0) (b .result) _ (b .ensures))
 
--- src/lines.rt:60:25
 sub-put-signers : tie.Need-sub-put-signers
-sub-put-signers c = search needs
+sub-put-signers c =
+  let a = c .before .before .before .before .before .before .before .before .put-number-line in
+  let b = c .before .before .put-log in
+  omega (arith, sum-within _ _ _ (a .result) (a .last .0) (put-writes _ _ _ _ (a .ensures)) (a .kept .0) (b .result) _ (b .ensures))
 
--- src/lines.rt:60:25
 part-put-signers-start : tie.Need-part-put-signers-start
-part-put-signers-start c = search needs
+part-put-signers-start c =
+  let a = c .before .before .before .before .before .before .before .before .put-number-line in
+  let b = c .before .before .put-log in
+  omega (arith, sum-within _ _ _ (a .result) (a .last .0) (put-writes _ _ _ _ (a .ensures)) (a .kept .0) (b .result) _ (b .ensures))
 
--- src/lines.rt:60:25
 part-put-signers-end : tie.Need-part-put-signers-end
 part-put-signers-end c = search needs
 
--- src/lines.rt:60:9
 put-signers-requires : tie.Need-put-signers-requires
-put-signers-requires c κs = search needs
+put-signers-requires c κs =
+  c .before .before .before .before .before .before .before .before .before .before .before .before .before .pre .0
 
--- src/lines.rt:61:5
 add-result : tie.Need-add-result
-add-result c = search needs
+add-result c =
+  let a = c .before .before .before .before .before .before .before .before .before .before .before .before .put-number-line in
+  let b = c .before .before .before .before .before .before .put-log in
+  let d = c .before .before .put-signers in
+  let two = writes-both _ _ _ (a .result) (a .last .0) (put-writes _ _ _ _ (a .ensures)) (a .kept .0) (b .result) _ (b .ensures) in
+  omega (arith, sum-within _ _ _ _ _ two (search needs) (d .result) _ (d .ensures))
 
--- src/lines.rt:53:1
 same-length : tie.Need-same-length
 same-length c = search needs
 
--- src/lines.rt:53:1
 returns : tie.Need-returns
-returns c = search needs
+returns c =
+  let a = c .before .before .before .before .before .before .before .before .before .before .before .before .put-number-line in
+  let b = c .before .before .before .before .before .before .put-log in
+  let d = c .before .before .put-signers in
+  let two = writes-both _ _ _ (a .result) (a .last .0) (put-writes _ _ _ _ (a .ensures)) (a .kept .0) (b .result) _ (b .ensures) in
+  writes-as _ _ _ _ _ (three-lines _ _ _) (writes-both _ _ _ _ _ two (search needs) (d .result) _ (d .ensures))
 
 pub put-node-spec : {M : Type 1} → statement M
 put-node-spec =

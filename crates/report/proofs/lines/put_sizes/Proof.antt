@@ -4,46 +4,49 @@ use Rattle.report.proofs.lines.put_sizes.Tie as tie
 use Rattle.report.proofs.lines.put_sizes.Reads as reads
 use Rattle.report.proofs.lines.put_sizes.Lts as lts
 use Rattle.print.proofs.put_number_line.Reads as put-number-line-reads
+use native.Mathlib.Omega.{arith}
+use Rattle.report.specs.Lines.{line}
+use Rattle.report.proofs.Printing.{put-writes, writes-as, sum-within, writes-both, two-lines}
 
--- src/lines.rt:27:42
 slice-aggregate-put-number-line : tie.Need-slice-aggregate-put-number-line
 slice-aggregate-put-number-line c = search needs
 
--- src/lines.rt:27:9
 put-number-line-requires : tie.Need-put-number-line-requires
 put-number-line-requires c κs = search needs
 
--- src/lines.rt:28:36
 sub-put-number-line : tie.Need-sub-put-number-line
-sub-put-number-line c = search needs
+sub-put-number-line c =
+  let a = c .before .before .put-number-line in
+  omega (arith, put-writes _ _ _ _ (a .ensures) .within, a .kept .0)
 
--- src/lines.rt:28:36
 part-put-number-line-start : tie.Need-part-put-number-line-start
-part-put-number-line-start c = search needs
+part-put-number-line-start c =
+  let a = c .before .before .put-number-line in
+  omega (arith, put-writes _ _ _ _ (a .ensures) .within, a .kept .0)
 
--- src/lines.rt:28:36
 part-put-number-line-end : tie.Need-part-put-number-line-end
 part-put-number-line-end c = search needs
 
--- src/lines.rt:28:52
 slice-aggregate-put-number-line-2 : tie.Need-slice-aggregate-put-number-line-2
 slice-aggregate-put-number-line-2 c = search needs
 
--- src/lines.rt:28:9
 put-number-line-requires-2 : tie.Need-put-number-line-requires-2
 put-number-line-requires-2 c κs = search needs
 
--- src/lines.rt:29:5
 add-result : tie.Need-add-result
-add-result c = search needs
+add-result c =
+  let a = c .before .before .before .before .before .before .before .put-number-line in
+  let b = c .before .before .put-number-line2 in
+  omega (arith, sum-within _ _ _ (a .result) (a .last .0) (put-writes _ _ _ _ (a .ensures)) (a .kept .0) (b .result) _ (put-writes _ _ _ _ (b .ensures)))
 
--- src/lines.rt:24:1
 same-length : tie.Need-same-length
 same-length c = search needs
 
--- src/lines.rt:24:1
 returns : tie.Need-returns
-returns c = search needs
+returns c =
+  let a = c .before .before .before .before .before .before .before .put-number-line in
+  let b = c .before .before .put-number-line2 in
+  writes-as _ _ _ _ _ (two-lines _ _) (writes-both _ _ _ (a .result) (a .last .0) (put-writes _ _ _ _ (a .ensures)) (a .kept .0) (b .result) _ (put-writes _ _ _ _ (b .ensures)))
 
 pub put-sizes-spec : {M : Type 1} → statement M
 put-sizes-spec =

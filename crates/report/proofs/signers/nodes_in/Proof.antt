@@ -21,7 +21,7 @@ abbrev μ-loop : tie.MeasureT-loop
 
 loop-holds : tie.Need-loop-holds Inv-loop μ-loop
 loop-holds c =
-  (omega arith, none-listed (hasBit (c .args .mask)) (replicate nodesMost 0))
+  (omega arith, none-listed (hasBit (c .args .mask)) (replicate nodesMost 0) refl)
 
 with-node-requires : tie.Need-with-node-requires Inv-loop μ-loop
 with-node-requires c κs =

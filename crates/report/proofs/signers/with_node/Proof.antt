@@ -30,7 +30,7 @@ add-t9 c = search needs
 returns-2 : tie.Need-returns-2
 returns-2 c =
   let s = c .before .before .before in
-  one-listed (hasBit (s .args .mask)) (s .args .j) (s .args .listing) (s .pre .1) (sym (c .before .before .has-bit .ensures) ∙ not-false _ (c .before .if1 .left)) (omega arith)
+  one-listed (hasBit (s .args .mask)) (s .args .j) (s .args .listing) (s .pre .1) (sym (c .before .before .has-bit .ensures) ∙ not-false _ (c .before .if1 .left)) (s .pre .0)
 
 pub with-node-spec : {M : Type 1} → statement M
 with-node-spec =
