@@ -5,3 +5,4 @@ pub mod Counting
 pub mod Printing
 pub mod Alike
 pub mod Whole
+pub mod OneLog
