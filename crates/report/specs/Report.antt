@@ -1,5 +1,5 @@
 -- What the rehearsal prints of a run that is over: "n, f, then for each correct node, ascending, its number, log and signers".
-use Prim.Native.Nat.{ℕ, _<_, _≤_}
+use Prim.Native.Nat.{ℕ, _*_, _<_, _≤_}
 use mathlib.Core.Path.{_≡_}
 use mathlib.Core.Bool.{Bool}
 use mathlib.Core.List.{List, []}
@@ -14,6 +14,10 @@ use Rattle.report.specs.Lines.{linesText, reportLines}
 -- the whole text; node i: the state of node i after round f + 1, where it is correct
 abbrev pub reportOf : (n f : ℕ) (faulty : ℕ → Bool) (node : ℕ → Node) → List ℕ
 reportOf n f faulty node = linesText (reportLines n f faulty (λ (i : ℕ). logOf (node i)))
+
+-- bytes of a report, at most: 6,144 for each of sixteen nodes
+abbrev pub textMost : ℕ
+textMost = 6144 * nodesMost
 
 -- node i of those handed over
 abbrev pub nodeAt : List Node → ℕ → Node
