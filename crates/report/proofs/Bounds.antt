@@ -77,7 +77,8 @@ module _ (kind : Items) (k : ℕ) where
   list-most (x ∷ xs) h =
       omega (arith, length-append (itemText kind x) (moreText kind xs), h x (inl refl), more-most xs (λ y i. h y (inr i)), mul-suc (suc k) (length xs))
 
-line-length : (key value : List ℕ) → length (lineText key value) ≡ length key + length value + 1
+line-length : (key value : List ℕ) → length (lineText key value) ≤ length key + length value + 1
+unfolding lineText
 line-length key value = omega (arith, length-append key (value ++ (lf ∷ [])), length-append value (lf ∷ []))
 
 -- ---- the lines of a node

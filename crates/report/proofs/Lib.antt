@@ -4,5 +4,6 @@ pub mod Speaking
 pub mod Counting
 pub mod Printing
 pub mod Alike
+pub mod Bounds
 pub mod Whole
 pub mod OneLog

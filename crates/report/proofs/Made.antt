@@ -1,10 +1,11 @@
 -- The log that a node makes is what its close writes over empty places; it has no more entries than there are places.
 use Prim.Native.Nat.{ℕ, zero, suc, _+_, _*_, _≤_, _<_}
 use mathlib.Core.Path.{_≡_, refl, sym, ap, _∙_}
-use mathlib.Core.Logic.{_≢_, inl}
+use mathlib.Core.Logic.{_≢_, ⊎-elim, inl}
 use mathlib.Core.Bool.{Bool, true, false, cond}
 use mathlib.Core.List.{List, [], _∷_, _++_}
-use native.Mathlib.Nat.{not-suc-le-zero}
+use native.Mathlib.Nat.{not-suc-le-zero, le-of-suc-le-suc, eq-or-lt-of-le}
+use native.Mathlib.Numerals.{add-one}
 use native.Mathlib.Omega.{arith}
 use borrow.Author.Tests.{le-leb, leb-true, eqb-true, eqb-false}
 use lib.Dec.{eqb, leb}
@@ -21,6 +22,7 @@ use Rattle.rules.specs.Log.{onlyKept, decision, decisions, join, joined}
 use Rattle.rules.proofs.Refusals.{row-passed}
 use Rattle.rules.proofs.Sizes.{sizes-told}
 use Rattle.rules.proofs.Joins.{join-most, joined-more}
+use Rattle.entries.specs.Bytes.{AreEntries}
 use Rattle.node.specs.Batches.{entriesOf}
 use Rattle.node.specs.State.{keptFor, soundNode}
 use Rattle.node.specs.declared.Node.{Node}
@@ -31,7 +33,7 @@ use Rattle.closing.specs.Gather.{decidedMost}
 use Rattle.closing.specs.declared.Closed.{Closed}
 use Rattle.report.specs.Logs.{logOf}
 use Rattle.report.specs.Signing.{hasBit}
-use Rattle.report.specs.Held.{heldAs, heldAt, logIn, AllFit, AllHeld}
+use Rattle.report.specs.Held.{heldAs, heldAt, logIn, AllFit, AllHeld, AllEntries}
 use Rattle.report.specs.declared.logs.HeldLog.{HeldLog}
 
 -- ---- one log
@@ -123,7 +125,10 @@ module _ (t : ℕ → Bool) (log : ℕ → List ℕ) where
   held-fit most n logs h j l f =
       let e = h j l f in
       let places : length (onto (log j) (replicate decidedMost 0)) ≡ decidedMost = onto-length (log j) (replicate decidedMost 0) (most j) in
-      (omega (arith, ap (λ (x : HeldLog). x .count) e, most j), ap (λ (x : HeldLog). length (x .entries)) e ∙ places)
+      record { few = omega (arith, ap (λ (x : HeldLog). x .count) e, most j); places = ap (λ (x : HeldLog). length (x .entries)) e ∙ places }
+
+  pub one-more-entries : (i : ℕ) → AllEntries t log i → (t i ≡ false → AreEntries (log i)) → AllEntries t log (i + 1)
+  one-more-entries i h e j l f = ⊎-elim (λ q. rw q (e (ap t (sym q) ∙ f))) (λ k. h j k f) (eq-or-lt-of-le (le-of-suc-le-suc (rw (sym (add-one i)) l)))
 
 -- ---- the log of a sound node after the last round
 

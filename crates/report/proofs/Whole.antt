@@ -1,6 +1,6 @@
 -- The whole text: what is held, numbered and spoken is what the logs of the correct nodes give.
 use Prim.Native.Nat.{ℕ, _*_, _≤_, _<_}
-use mathlib.Core.Path.{_≡_, refl, sym, ap, ap₂, _∙_}
+use mathlib.Core.Path.{_≡_, refl, sym, ap, ap₂, subst, _∙_}
 use mathlib.Core.Bool.{Bool, false}
 use mathlib.Core.List.{List, [], _++_}
 use native.Mathlib.Omega.{arith}
@@ -9,6 +9,7 @@ use lib.Seq.{take-at}
 use Rattle.laws.specs.Parts.{onto}
 use Rattle.rules.specs.Signers.{Mark}
 use Rattle.rules.specs.Sizes.{nodesMost}
+use Rattle.entries.specs.Bytes.{AreEntries}
 use Rattle.node.specs.declared.Node.{Node}
 use Rattle.signing.specs.Slots.{slotSize}
 use Rattle.report.specs.Logs.{logOf}
@@ -17,21 +18,27 @@ use Rattle.report.specs.Spoken.{slotsWith, slotsAt}
 use Rattle.report.specs.Signing.{hasBit, nodesThat, countedWith, signersAt}
 use Rattle.report.specs.Lines.{linesText, sizesLines, allLines, reportLines}
 use Rattle.report.specs.Report.{nodeAt, Writes, Reports}
-use Rattle.report.specs.Held.{heldAs, heldAt, logIn, AllHeld, Numbered}
+use Rattle.report.specs.Held.{heldAs, heldAt, logIn, AllHeld, AllEntries, Numbered}
 use Rattle.report.specs.declared.logs.HeldLog.{HeldLog}
 use Rattle.report.specs.declared.marks.Numbers.{Numbers}
 use Rattle.report.proofs.Made.{held-log}
 use Rattle.report.proofs.Speaking.{mark-size, slots-size}
 use Rattle.report.proofs.Printing.{lines-append}
+use Rattle.report.proofs.Bounds.{report-most}
 use Rattle.report.proofs.Alike.{slots-same, lines-same, mark-same}
 
 -- nothing is written of more than sixteen nodes
 pub too-many : (n f faulty : ℕ) (nodes : List Node) (text : List ℕ) → nodesMost < n → Reports n f faulty nodes text 0 text
-too-many n f faulty nodes text h = record { writes = λ l. absurd (omega arith); nothing = λ l. refl; untouched = λ l. refl }
+too-many n f faulty nodes text h = record { writes = λ l. absurd (omega arith); most = λ l. absurd (omega arith); nothing = λ l. refl; untouched = λ l. refl }
 
 pub as-report : (n f faulty : ℕ) (nodes : List Node) (text : List ℕ) (r : ℕ) (after : List ℕ) → n ≤ nodesMost
-    → Writes (linesText (reportLines n f (hasBit faulty) (λ i. logOf (nodeAt nodes i)))) text r after → Reports n f faulty nodes text r after
-as-report n f faulty nodes text r after l w = record { writes = λ m. w; nothing = λ m. absurd (omega arith); untouched = λ m. absurd (omega arith) }
+    → Writes (linesText (reportLines n f (hasBit faulty) (λ i. logOf (nodeAt nodes i)))) text r after
+    → AllEntries (hasBit faulty) (λ i. logOf (nodeAt nodes i)) n → Reports n f faulty nodes text r after
+as-report n f faulty nodes text r after l w e = record { writes = λ m. w; most = λ m k. report-most n f (hasBit faulty) (nodeAt nodes) m k e; nothing = λ m. absurd (omega arith); untouched = λ m. absurd (omega arith) }
+
+-- what is held of 64-bit numbers is the log
+pub held-entries : (t : ℕ → Bool) (log : ℕ → List ℕ) (n : ℕ) (held : List HeldLog) → AllHeld t log n held → AllEntries t (λ j. logIn (heldAt held j)) n → AllEntries t log n
+held-entries t log n held h e j l f = subst AreEntries (ap logIn (h j l f) ∙ held-log (log j)) (e j l f)
 
 module _ (n f : ℕ) (t : ℕ → Bool) (log : ℕ → List ℕ) (held : List HeldLog) (h : AllHeld t log n held) (x : Numbers) (num : Numbered t (λ j. logIn (heldAt held j)) n x)
     (slots : List ℕ) (s : slots ≡ slotsWith t (λ j. markWith (getD (x .of) j 0)) n) where

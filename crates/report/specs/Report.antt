@@ -29,8 +29,9 @@ pub record Writes (w text : List ℕ) (answer : ℕ) (after : List ℕ) : Type 0
   pub answers : length w ≤ length text → answer ≡ length w
   pub leaves : length w ≤ length text → after ≡ onto w text
 
--- what `report_into` promises; nothing is written of more than sixteen nodes
+-- what `report_into` promises: the whole text where there is room for it, and how much room that is at most; nothing is written of more than sixteen nodes
 pub record Reports (n f faulty : ℕ) (nodes : List Node) (text : List ℕ) (answer : ℕ) (after : List ℕ) : Type 0 where
   pub writes : n ≤ nodesMost → Writes (reportOf n f (hasBit faulty) (nodeAt nodes)) text answer after
+  pub most : n ≤ nodesMost → f ≤ nodesMost → length (reportOf n f (hasBit faulty) (nodeAt nodes)) ≤ textMost
   pub nothing : nodesMost < n → answer ≡ 0
   pub untouched : nodesMost < n → after ≡ text

@@ -6,10 +6,10 @@ use Rattle.report.proofs.lines.put_correct.Lts as lts
 use Rattle.report.proofs.lines.put_node.Reads as put-node-reads
 use Rattle.report.proofs.logs.has_bit.Reads as has-bit-reads
 use Rattle.report.proofs.signers.counted.Reads as counted-reads
-use mathlib.Core.Path.{sym, ap, _∙_}
-use mathlib.Core.Bool.{cond}
+use mathlib.Core.Path.{sym, _∙_}
 use native.Mathlib.Omega.{arith}
 use denote.Ref.{now}
+use Rattle.laws.proofs.Tests.{clash}
 use Rattle.report.specs.Marks.{markWith}
 use Rattle.report.specs.Signing.{hasBit, nodesThat, countedWith}
 use Rattle.report.specs.Lines.{nodeLines}
@@ -22,7 +22,8 @@ has-bit-requires c κs = search needs
 returns : tie.Need-returns
 returns c =
   let a = c .before .before .before .before .args in
-  writes-as _ _ _ _ _ (faulty-prints-none (a .faulty) (a .i) (nodeLines (a .i) (logIn (a .log)) (nodesThat (hasBit (countedWith (a .n) (a .f) (a .i) (markWith (a .number)) (now (a .slots)))) (a .n))) (sym (c .before .has-bit .ensures) ∙ c .if1 .taken)) (writes-none (now (a .text)))
+  let faulty = sym (c .before .has-bit .ensures) ∙ c .if1 .taken in
+  (writes-as _ _ _ _ _ (faulty-prints-none (a .faulty) (a .i) (nodeLines (a .i) (logIn (a .log)) (nodesThat (hasBit (countedWith (a .n) (a .f) (a .i) (markWith (a .number)) (now (a .slots)))) (a .n))) faulty) (writes-none (now (a .text))), λ f. absurd (clash faulty f))
 
 counted-requires : tie.Need-counted-requires
 counted-requires c κs = search needs
@@ -38,7 +39,8 @@ same-length c = search needs
 returns-2 : tie.Need-returns-2
 returns-2 c =
   let a = c .before .before .before .before .before .before .before .before .before .args in
-  writes-as _ _ _ _ _ (correct-prints (a .faulty) (a .i) (a .n) (logIn (a .log)) _ _ (c .before .before .before .before .counted .ensures) (sym (c .before .before .before .before .before .before .has-bit .ensures) ∙ c .before .before .before .before .before .if1 .left)) (c .before .before .put-node .ensures)
+  let node = c .before .before .put-node in
+  (writes-as _ _ _ _ _ (correct-prints (a .faulty) (a .i) (a .n) (logIn (a .log)) _ _ (c .before .before .before .before .counted .ensures) (sym (c .before .before .before .before .before .before .has-bit .ensures) ∙ c .before .before .before .before .before .if1 .left)) (node .ensures .0), λ f. node .ensures .1)
 
 pub put-correct-spec : {M : Type 1} → statement M
 put-correct-spec =

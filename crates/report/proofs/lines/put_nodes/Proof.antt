@@ -6,7 +6,8 @@ use Rattle.report.proofs.lines.put_nodes.Lts as lts
 use Rattle.report.proofs.lines.put_correct.Reads as put-correct-reads
 use Prim.Native.Nat.{ℕ, _-_, _≤_}
 use mathlib.Core.List.{List}
-use mathlib.Core.Path.{_≡_, refl, sym, ap, _∙_}
+use mathlib.Core.Path.{_≡_, refl, sym, ap, subst, _∙_}
+use native.Mathlib.Nat.{not-suc-le-zero}
 use native.Mathlib.Omega.{arith}
 use denote.Ref.{now}
 use lib.ListN.{length, getD}
@@ -14,7 +15,8 @@ use Rattle.report.specs.Marks.{markWith}
 use Rattle.report.specs.Signing.{hasBit, nodesThat, countedWith}
 use Rattle.report.specs.Lines.{allLines, linesText}
 use Rattle.report.specs.Report.{Writes}
-use Rattle.report.specs.Held.{heldAt, logIn}
+use Rattle.report.specs.Held.{AllEntries, heldAt, logIn}
+use Rattle.report.proofs.Made.{one-more-entries}
 use Rattle.report.proofs.Printing.{writes-as, writes-none, sum-within, writes-both, no-nodes, node-after}
 
 -- the signers that are printed of node i
@@ -24,6 +26,7 @@ signersBy n f numbers slots i = nodesThat (hasBit (countedWith n f i (markWith (
 abbrev Inv-loop : tie.InvT-loop
 Inv-loop text₀ n f faulty slots logs numbers at₀ i₀ text at i =
     (i ≤ n) × (length text ≡ length text₀) × Writes (linesText (allLines (hasBit faulty) (λ j. logIn (heldAt logs j)) (signersBy n f numbers slots) i)) text₀ at text
+    × AllEntries (hasBit faulty) (λ j. logIn (heldAt logs j)) i
 
 abbrev μ-loop : tie.MeasureT-loop
 μ-loop text₀ n f faulty slots logs numbers at₀ i₀ text at i = n - i
@@ -31,7 +34,7 @@ abbrev μ-loop : tie.MeasureT-loop
 loop-holds : tie.Need-loop-holds Inv-loop μ-loop
 loop-holds c =
   let a = c .before .before .args in
-  (omega arith, refl, writes-as _ _ _ _ _ (sym (no-nodes (hasBit (a .faulty)) (λ j. logIn (heldAt (a .t5) j)) (signersBy (a .n) (a .f) (a .t6) (now (a .slots))))) (writes-none (now (a .text))))
+  (omega arith, refl, writes-as _ _ _ _ _ (sym (no-nodes (hasBit (a .faulty)) (λ j. logIn (heldAt (a .t5) j)) (signersBy (a .n) (a .f) (a .t6) (now (a .slots))))) (writes-none (now (a .text))), λ j l. absurd (not-suc-le-zero l))
 
 sub-put-correct : tie.Need-sub-put-correct Inv-loop μ-loop
 sub-put-correct c =
@@ -56,13 +59,13 @@ array-read-put-correct c = search needs
 put-correct-requires : tie.Need-put-correct-requires Inv-loop μ-loop
 put-correct-requires c κs =
   let s = c .before .before .before .before .before .before in
-  (s .pre .0, omega arith, λ f. s .pre .1 (c .before .before .before .loop .i) (omega arith) f .0)
+  (s .pre .0, omega arith, λ f. s .pre .1 (c .before .before .before .loop .i) (omega arith) f)
 
 add-at : tie.Need-add-at Inv-loop μ-loop
 add-at c =
   let l = c .before .before .before .before .before .before .loop in
   let d = c .before .before .put-correct in
-  omega (arith, sum-within _ _ _ (l .at) (l .text) (l .inv .2) (l .inv .1) (d .result) _ (d .ensures))
+  omega (arith, sum-within _ _ _ (l .at) (l .text) (l .inv .2) (l .inv .1) (d .result) _ (d .ensures .0))
 
 add-i : tie.Need-add-i Inv-loop μ-loop
 add-i c = search needs
@@ -76,7 +79,7 @@ loop-again c =
   let l = c .before .before .before .before .before .before .loop in
   let d = c .before .before .put-correct in
   (omega arith, search needs, writes-as _ _ _ _ _ (node-after (hasBit (a .faulty)) (λ j. logIn (heldAt (a .t5) j)) (signersBy (a .n) (a .f) (a .t6) (now (a .slots))) (l .i))
-    (writes-both _ _ _ (l .at) (l .text) (l .inv .2) (l .inv .1) (d .result) _ (d .ensures)))
+    (writes-both _ _ _ (l .at) (l .text) (l .inv .2) (l .inv .1) (d .result) _ (d .ensures .0)), one-more-entries (hasBit (a .faulty)) (λ j. logIn (heldAt (a .t5) j)) (l .i) (l .inv .3) (d .ensures .1))
 
 same-length : tie.Need-same-length Inv-loop μ-loop
 same-length c =
@@ -87,7 +90,8 @@ returns c =
   let a = c .before .before .before .before .args in
   let l = c .before .loop in
   let all : l .i ≡ a .n = omega arith in
-  writes-as _ _ _ _ _ (ap (λ i. linesText (allLines (hasBit (a .faulty)) (λ j. logIn (heldAt (a .t5) j)) (signersBy (a .n) (a .f) (a .t6) (now (a .slots))) i)) all) (l .inv .2)
+  (writes-as _ _ _ _ _ (ap (λ i. linesText (allLines (hasBit (a .faulty)) (λ j. logIn (heldAt (a .t5) j)) (signersBy (a .n) (a .f) (a .t6) (now (a .slots))) i)) all) (l .inv .2),
+    subst (λ i. AllEntries (hasBit (a .faulty)) (λ j. logIn (heldAt (a .t5) j)) i) all (l .inv .3))
 
 pub put-nodes-spec : {M : Type 1} → statement M
 put-nodes-spec =

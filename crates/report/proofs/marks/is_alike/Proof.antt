@@ -34,7 +34,7 @@ is-same-log-requires c κs =
   let s = c .before .before .before .before .before .before .before .before in
   let f = sym (c .before .before .before .before .before .before .before .has-bit .ensures) ∙ c .before .before .before .before .before .before .if1 .left in
   let p = s .pre in
-  (p .3 (s .args .i) (omega arith) (p .2) .0, p .3 (s .args .k) (omega arith) f .0)
+  (p .3 (s .args .i) (omega arith) (p .2) .few, p .3 (s .args .k) (omega arith) f .few)
 
 returns-2 : tie.Need-returns-2
 returns-2 c =
