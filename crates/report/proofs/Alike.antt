@@ -10,7 +10,7 @@ use Rattle.rules.specs.Step.{gather}
 use Rattle.node.specs.declared.Node.{Node}
 use Rattle.report.specs.Logs.{logOf}
 use Rattle.report.specs.Marks.{placeIn, markWith, distinct, numberAt, markAt}
-use Rattle.report.specs.Spoken.{slotWith, slotsWith, slotsAt}
+use Rattle.report.specs.Spoken.{slotWith, slotsWith}
 use Rattle.report.specs.Signing.{hasBit, nodesThat, countedWith, signersAt}
 use Rattle.report.specs.Lines.{Line, linesText, sizesLines, nodeLines, allLines, reportLines}
 use Rattle.report.specs.Report.{reportOf}

@@ -1,13 +1,13 @@
 -- A report has no more bytes than its bound: a log that is made on an empty one has 256 entries at most, an entry 22 bytes and a comma.
 use Prim.Native.Nat.{ℕ, zero, suc, _+_, _*_, _/_, _%_, _^_, _≤_, _<_}
-use mathlib.Core.Path.{_≡_, refl, sym, ap, _∙_}
+use mathlib.Core.Path.{_≡_, refl, ap}
 use mathlib.Core.Logic.{⊎-elim, inl, inr}
 use mathlib.Core.Bool.{Bool, true, false, cond}
 use mathlib.Core.List.{List, [], _∷_, _++_}
 use native.Mathlib.Nat.{pow-suc, mul-suc}
 use native.Mathlib.Numerals.{add-one}
 use native.Mathlib.Omega.{arith}
-use borrow.Author.Tests.{ltb-true, ltb-false}
+use borrow.Author.Tests.{ltb-false}
 use lib.Dec.{ltb}
 use lib.ListN.{length, length-append}
 use Rattle.laws.specs.Members.{In}
@@ -24,7 +24,7 @@ use Rattle.print.specs.declared.Items.the-variants.{Nodes, Entries}
 use Rattle.schedule.specs.Keys.{nodesKey, faultsKey}
 use Rattle.report.specs.Logs.{logOf}
 use Rattle.report.specs.Signing.{nodesThat, signersAt}
-use Rattle.report.specs.Lines.{line, linesText, nodeKey, logKey, signersKey, sizesLines, nodeLines, allLines}
+use Rattle.report.specs.Lines.{linesText, nodeKey, logKey, signersKey, sizesLines, nodeLines, allLines}
 use Rattle.report.specs.Report.{reportOf, textMost}
 use Rattle.report.proofs.Made.{log-most}
 use Rattle.report.proofs.Printing.{lines-append, node-after, no-nodes}
@@ -59,7 +59,7 @@ entry-most x h =
       length-append (decimalOf (x / 2 ^ 48) ++ (dot ∷ [])) (lowText x),
       length-append (decimalOf (x / 2 ^ 48)) (dot ∷ []),
       length-append (decimalOf (x / 2 ^ 32 % 2 ^ 16) ++ (dot ∷ [])) (decimalOf (x % 2 ^ 32)),
-      length-append (decimalOf (x / 2 ^ 32 % 2 ^ 16)) (dot ∷ [])
+      length-append (decimalOf (x / 2 ^ 32 % 2 ^ 16)) (dot ∷ []),
     )
 
 -- ---- lists: each item has k bytes at most, and a comma
@@ -120,8 +120,16 @@ node-most i log signers l e s =
     let b : List ℕ = lineText logKey (listText Entries log) in
     let d : List ℕ = lineText signersKey (listText Nodes signers) in
     omega (
-      arith, length-append a (b ++ (d ++ [])), length-append b (d ++ []), length-append d [], line-length nodeKey (decimalOf i), decimal-most 1 i (omega arith),
-      line-length logKey (listText Entries log), line-length signersKey (listText Nodes signers), e, s
+      arith,
+      length-append a (b ++ (d ++ [])),
+      length-append b (d ++ []),
+      length-append d [],
+      line-length nodeKey (decimalOf i),
+      decimal-most 1 i (omega arith),
+      line-length logKey (listText Entries log),
+      line-length signersKey (listText Nodes signers),
+      e,
+      s,
     )
 
 nodes-most : (t : ℕ → Bool) (log signers : ℕ → List ℕ) (n : ℕ) → n ≤ nodesMost
@@ -131,9 +139,12 @@ unfolding linesText
 nodes-most t log signers zero l h = omega (arith, ap length (no-nodes t log signers))
 nodes-most t log signers (suc n) l h =
     omega (
-      arith, ap length (node-after t log signers n), ap (λ (k : ℕ). length (linesText (allLines t log signers k))) (add-one n),
+      arith,
+      ap length (node-after t log signers n),
+      ap (λ (k : ℕ). length (linesText (allLines t log signers k))) (add-one n),
       length-append (linesText (allLines t log signers n)) (linesText (cond (t n) [] (nodeLines n (log n) (signers n)))),
-      nodes-most t log signers n (omega arith) (λ i m f. h i (omega arith) f), one (t n) refl
+      nodes-most t log signers n (omega arith) (λ i m f. h i (omega arith) f),
+      one (t n) refl,
     )
   where
     one : (b : Bool) → t n ≡ b → length (linesText (cond b [] (nodeLines n (log n) (signers n)))) ≤ 6000
@@ -148,8 +159,13 @@ sizes-most n f l m =
     let a : List ℕ = lineText nodesKey (decimalOf n) in
     let b : List ℕ = lineText faultsKey (decimalOf f) in
     omega (
-      arith, length-append a (b ++ []), length-append b [], line-length nodesKey (decimalOf n), line-length faultsKey (decimalOf f),
-      decimal-most 1 n (omega arith), decimal-most 1 f (omega arith)
+      arith,
+      length-append a (b ++ []),
+      length-append b [],
+      line-length nodesKey (decimalOf n),
+      line-length faultsKey (decimalOf f),
+      decimal-most 1 n (omega arith),
+      decimal-most 1 f (omega arith),
     )
 
 pub report-most : (n f : ℕ) (t : ℕ → Bool) (node : ℕ → Node) → n ≤ nodesMost → f ≤ nodesMost → ((i : ℕ) → i < n → t i ≡ false → AreEntries (logOf (node i)))
@@ -158,6 +174,9 @@ report-most n f t node l m h =
     let log : ℕ → List ℕ = λ i. logOf (node i) in
     let nodes = nodes-most t log (signersAt n f t log) n l (λ i k p. (log-text-most (logOf (node i)) (h i k p) (log-most (node i)), signers-text-most _ n l)) in
     omega (
-      arith, ap length (lines-append (sizesLines n f) (allLines t log (signersAt n f t log) n)),
-      length-append (linesText (sizesLines n f)) (linesText (allLines t log (signersAt n f t log) n)), sizes-most n f l m, nodes
+      arith,
+      ap length (lines-append (sizesLines n f) (allLines t log (signersAt n f t log) n)),
+      length-append (linesText (sizesLines n f)) (linesText (allLines t log (signersAt n f t log) n)),
+      sizes-most n f l m,
+      nodes,
     )

@@ -3,22 +3,22 @@ use Prim.Native.Nat.{ℕ, zero, suc, _+_, _*_, _≤_, _<_}
 use mathlib.Core.Path.{_≡_, refl, sym, ap, _∙_}
 use mathlib.Core.Logic.{_≢_, ⊎-elim, inl}
 use mathlib.Core.Bool.{Bool, true, false, cond}
-use mathlib.Core.List.{List, [], _∷_, _++_}
+use mathlib.Core.List.{List, [], _∷_}
 use native.Mathlib.Nat.{not-suc-le-zero, le-of-suc-le-suc, eq-or-lt-of-le}
 use native.Mathlib.Numerals.{add-one}
 use native.Mathlib.Omega.{arith}
 use borrow.Author.Tests.{le-leb, leb-true, eqb-true, eqb-false}
 use lib.Dec.{eqb, leb}
-use lib.ListN.{length, getD, take, drop, set, replicate, length-set}
+use lib.ListN.{length, drop, set, replicate, length-set}
 use lib.Seq.{take-at, getD-set-same, getD-set-other}
 use Rattle.laws.specs.Members.{In}
 use Rattle.laws.specs.Parts.{onto}
-use Rattle.laws.proofs.Tests.{both, clash}
+use Rattle.laws.proofs.Tests.{clash}
 use Rattle.laws.proofs.Lent.{onto-length}
 use Rattle.rules.specs.Sizes.{nodesMost, batchMost, fits, isBatch, isLog}
 use Rattle.rules.specs.Refusals.{refuse_unless_then_, ifDone}
 use Rattle.rules.specs.Step.{gather}
-use Rattle.rules.specs.Log.{onlyKept, decision, decisions, join, joined}
+use Rattle.rules.specs.Log.{onlyKept, decision, decisions, joined}
 use Rattle.rules.proofs.Refusals.{row-passed}
 use Rattle.rules.proofs.Sizes.{sizes-told}
 use Rattle.rules.proofs.Joins.{join-most, joined-more}
@@ -28,7 +28,7 @@ use Rattle.node.specs.State.{keptFor, soundNode}
 use Rattle.node.specs.declared.Node.{Node}
 use Rattle.node.proofs.Sound.{sound-told, sound-right}
 use Rattle.tray.proofs.Sound.{batch-parts}
-use Rattle.closing.specs.Close.{decisionsOf, newLogOf, closeNumber, Close}
+use Rattle.closing.specs.Close.{newLogOf, closeNumber, Close}
 use Rattle.closing.specs.Gather.{decidedMost}
 use Rattle.closing.specs.declared.Closed.{Closed}
 use Rattle.report.specs.Logs.{logOf}

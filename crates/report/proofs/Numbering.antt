@@ -145,9 +145,9 @@ module _ (t : ℕ → Bool) (log : ℕ → List ℕ) where
             places = length-set (x .of) i _ ∙ h .places;
             count = h .count ∙ ap length d;
             each = λ j m g. ⊎-elim
-              (λ q. rw q (getD-set-same (x .of) i _ 0 within ∙ h .each k l (a .correct l) ∙ ap (λ (y : List ℕ). placeIn y (distinct t log i)) (sym e) ∙ ap (placeIn (log i)) d))
-              (λ q. let ne : j ≢ i = λ z. omega arith in getD-set-other (x .of) i j _ 0 ne ∙ h .each j q g ∙ ap (placeIn (log j)) d)
-              (eq-or-lt-of-le (le-of-suc-le-suc (rw (sym (add-one i)) m)));
+                (λ q. rw q (getD-set-same (x .of) i _ 0 within ∙ h .each k l (a .correct l) ∙ ap (λ (y : List ℕ). placeIn y (distinct t log i)) (sym e) ∙ ap (placeIn (log i)) d))
+                (λ q. let ne : j ≢ i = λ z. omega arith in getD-set-other (x .of) i j _ 0 ne ∙ h .each j q g ∙ ap (placeIn (log j)) d)
+                (eq-or-lt-of-le (le-of-suc-le-suc (rw (sym (add-one i)) m)));
           }
 
       -- no node below has node i's log: it gets the next number
@@ -160,10 +160,10 @@ module _ (t : ℕ → Bool) (log : ℕ → List ℕ) where
             places = length-set (x .of) i _ ∙ h .places;
             count = omega (arith, h .count, ap length d, length-append (distinct t log i) (log i ∷ []));
             each = λ j m g. ⊎-elim
-              (λ q. rw q (getD-set-same (x .of) i c 0 within ∙ ce ∙ h .count ∙ sym (ap (placeIn (log i)) d ∙ place-next (log i) (distinct t log i) none)))
-              (λ q. let ne : j ≢ i = λ y. omega arith in
+                (λ q. rw q (getD-set-same (x .of) i c 0 within ∙ ce ∙ h .count ∙ sym (ap (placeIn (log i)) d ∙ place-next (log i) (distinct t log i) none)))
+                (λ q. let ne : j ≢ i = λ y. omega arith in
                 getD-set-other (x .of) i j c 0 ne ∙ h .each j q g ∙ sym (ap (placeIn (log j)) d ∙ place-kept (log j) (distinct t log i) (log i ∷ []) (its-among i j q g)))
-              (eq-or-lt-of-le (le-of-suc-le-suc (rw (sym (add-one i)) m)));
+                (eq-or-lt-of-le (le-of-suc-le-suc (rw (sym (add-one i)) m)));
           }
 
   pub none-numbered : (places : List ℕ) → length places ≡ nodesMost → Numbered t log 0 (record { count = 0; of = places })

@@ -4,13 +4,13 @@ use mathlib.Core.Path.{_≡_, refl, sym, ap, ap₂, _∙_}
 use mathlib.Core.Logic.{_⊎_, ⊎-elim, inl, inr}
 use mathlib.Core.Bool.{Bool, true, false, not, cond, _&&_, _||_}
 use mathlib.Core.List.{List, [], _∷_, _++_}
-use mathlib.Core.Option.{Option, none, some}
+use mathlib.Core.Option.{none, some}
 use native.Mathlib.Omega.{arith}
 use borrow.Author.Tests.{eq-eqb, le-leb, lt-ltb, eqb-true}
 use lib.Count.{ones}
-use lib.Dec.{eqb, ltb}
-use lib.ListN.{length, replicate}
-use Rattle.laws.specs.Masks.{bit, asBit, count, maskOf}
+use lib.Dec.{eqb}
+use lib.ListN.{length}
+use Rattle.laws.specs.Masks.{asBit, count, maskOf}
 use Rattle.laws.specs.Members.{same, among}
 use Rattle.laws.proofs.Bits.{mask-bit}
 use Rattle.laws.proofs.Count.{count-not, mask-ones}
@@ -19,13 +19,12 @@ use Rattle.laws.proofs.Tests.{clash}
 use Rattle.rules.specs.Sizes.{sizes}
 use Rattle.rules.specs.Refusals.{done}
 use Rattle.rules.specs.Signers.{Mark, Slot, speaks, signer, signersOf, enough}
-use Rattle.rules.specs.Step.{gather}
 use Rattle.node.specs.declared.Node.{Node}
 use Rattle.signing.specs.Slots.{slotSize, slotIn, slotOf}
 use Rattle.signing.specs.Count.{signersNumber}
 use Rattle.report.specs.Logs.{logOf}
 use Rattle.report.specs.Marks.{placeIn, markWith, distinct, numberAt, markAt}
-use Rattle.report.specs.Spoken.{slotWith, slotsWith, slotsAt}
+use Rattle.report.specs.Spoken.{slotWith, slotsAt}
 use Rattle.report.specs.Signing.{hasBit, nodesThat, countedWith, signersAt}
 use Rattle.report.specs.Lines.{linesText, sizesLines, allLines}
 use Rattle.report.specs.Report.{reportOf}

@@ -1,15 +1,13 @@
 -- Text written after text, and lines after lines.
-use Prim.Native.Nat.{ℕ, zero, suc, _+_, _-_, _≤_, _<_}
+use Prim.Native.Nat.{ℕ, _+_, _-_, _≤_}
 use mathlib.Core.Path.{_≡_, refl, sym, ap, subst, _∙_}
 use mathlib.Core.Bool.{Bool, true, false, cond}
 use mathlib.Core.List.{List, [], _∷_, _++_, append-assoc, append-nil}
 use native.Mathlib.Numerals.{add-one}
 use native.Mathlib.Omega.{arith}
 use borrow.Author.Tests.{le-leb, leb-true}
-use lib.Dec.{leb}
 use lib.ListN.{length, take, drop, length-append, length-drop}
 use lib.Seq.{length-take-le}
-use Rattle.laws.specs.Parts.{onto}
 use Rattle.laws.proofs.Lent.{comes-back}
 use Rattle.rules.specs.Step.{gather}
 use Rattle.print.specs.Texts.{lineText}
@@ -56,8 +54,8 @@ module _ (v w text : List ℕ) (a : ℕ) (part : List ℕ) (p : Writes v text a 
     within = sum-within;
     answers = λ h. omega (arith, first h, second h, length-append v w);
     leaves = λ h.
-      comes-back v w text part y a (sym (first h)) (p .within) (p .leaves (fits h) ∙ ap (λ (k : ℕ). v ++ drop k text) (sym (first h))) (q .leaves (more h))
-      ∙ ap (λ (k : ℕ). (v ++ w) ++ drop k text) (written h);
+        comes-back v w text part y a (sym (first h)) (p .within) (p .leaves (fits h) ∙ ap (λ (k : ℕ). v ++ drop k text) (sym (first h))) (q .leaves (more h))
+        ∙ ap (λ (k : ℕ). (v ++ w) ++ drop k text) (written h);
   }
     where
       fits : length (v ++ w) ≤ length text → length v ≤ length text

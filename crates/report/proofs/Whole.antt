@@ -2,7 +2,7 @@
 use Prim.Native.Nat.{ℕ, _*_, _≤_, _<_}
 use mathlib.Core.Path.{_≡_, refl, sym, ap, ap₂, subst, _∙_}
 use mathlib.Core.Bool.{Bool, false}
-use mathlib.Core.List.{List, [], _++_}
+use mathlib.Core.List.{List, _++_}
 use native.Mathlib.Omega.{arith}
 use lib.ListN.{length, getD, take, drop}
 use lib.Seq.{take-at}
@@ -18,7 +18,7 @@ use Rattle.report.specs.Spoken.{slotsWith, slotsAt}
 use Rattle.report.specs.Signing.{hasBit, nodesThat, countedWith, signersAt}
 use Rattle.report.specs.Lines.{linesText, sizesLines, allLines, reportLines}
 use Rattle.report.specs.Report.{nodeAt, Writes, Reports}
-use Rattle.report.specs.Held.{heldAs, heldAt, logIn, AllHeld, AllEntries, Numbered}
+use Rattle.report.specs.Held.{heldAt, logIn, AllHeld, AllEntries, Numbered}
 use Rattle.report.specs.declared.logs.HeldLog.{HeldLog}
 use Rattle.report.specs.declared.marks.Numbers.{Numbers}
 use Rattle.report.proofs.Made.{held-log}

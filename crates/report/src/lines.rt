@@ -61,7 +61,16 @@ fn put_node(text: &mut [u8], n: usize, i: usize, log: HeldLog, mask: u16) -> usi
 }
 
 // Node i where it is correct; nothing of a faulty one.
-fn put_correct(text: &mut [u8], n: usize, f: usize, faulty: u16, i: usize, log: HeldLog, number: u8, slots: &[u8]) -> usize
+fn put_correct(
+    text: &mut [u8],
+    n: usize,
+    f: usize,
+    faulty: u16,
+    i: usize,
+    log: HeldLog,
+    number: u8,
+    slots: &[u8],
+) -> usize
     requires { ⌜ (n ≤ nodesMost) × (i < n) × (hasBit faulty i ≡ false → Fits log) ⌝ }
     ensures { λ r. ⌜ Writes (linesText (cond (hasBit faulty i) [] (nodeLines i (logIn log) (nodesThat (hasBit (countedWith n f i (markWith number) (now (slots .entry)))) n)))) (now (text .entry)) r (now (text .exit)) × (hasBit faulty i ≡ false → AreEntries (logIn log)) ⌝ }
 {

@@ -1,10 +1,8 @@
+-- The line is the printer's; that entries are 64-bit numbers is what their type tells.
+use Rattle.report.proofs.Printing.{put-writes}
 use borrow.Author.Needs.{needs}
 use Rattle.report.proofs.lines.put_log.Statement.{statement}
 use Rattle.report.proofs.lines.put_log.Tie as tie
-use Rattle.report.proofs.lines.put_log.Reads as reads
-use Rattle.report.proofs.lines.put_log.Lts as lts
-use Rattle.print.proofs.put_list_line.Reads as put-list-line-reads
-use Rattle.report.proofs.Printing.{put-writes}
 
 slice-aggregate-put-list-line : tie.Need-slice-aggregate-put-list-line
 slice-aggregate-put-list-line c = search needs
@@ -17,7 +15,7 @@ same-length c = search needs
 
 returns : tie.Need-returns
 returns c =
-  (put-writes _ _ _ _ (c .before .before .put-list-line .ensures), λ i. c .before .before .before .before .before .shared-slice-known .given i .fits)
+    (put-writes _ _ _ _ (c .before .before .put-list-line .ensures), λ i. c .before .before .before .before .before .shared-slice-known .given i .fits)
 
 pub put-log-spec : {M : Type 1} → statement M
 put-log-spec =

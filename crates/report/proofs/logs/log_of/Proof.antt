@@ -1,10 +1,8 @@
+-- What the close leaves in empty places is the log, held.
+use Rattle.report.proofs.Made.{close-holds}
 use borrow.Author.Needs.{needs}
 use Rattle.report.proofs.logs.log_of.Statement.{statement}
 use Rattle.report.proofs.logs.log_of.Tie as tie
-use Rattle.report.proofs.logs.log_of.Reads as reads
-use Rattle.report.proofs.logs.log_of.Lts as lts
-use Rattle.closing.proofs.close.Reads as close-reads
-use Rattle.report.proofs.Made.{close-holds}
 
 slice-aggregate-close : tie.Need-slice-aggregate-close
 slice-aggregate-close c = search needs
@@ -17,7 +15,7 @@ close-requires c κs = search needs
 
 returns : tie.Need-returns
 returns c =
-  close-holds (c .before .before .before .before .args .node) (c .before .close .result) _ (c .before .close .ensures)
+    close-holds (c .before .before .before .before .args .node) (c .before .close .result) _ (c .before .close .ensures)
 
 pub log-of-spec : {M : Type 1} → statement M
 log-of-spec =

@@ -1,22 +1,19 @@
-use borrow.Author.Needs.{needs}
-use Rattle.report.proofs.signers.with_node.Statement.{statement}
-use Rattle.report.proofs.signers.with_node.Tie as tie
-use Rattle.report.proofs.signers.with_node.Reads as reads
-use Rattle.report.proofs.signers.with_node.Lts as lts
-use Rattle.report.proofs.logs.has_bit.Reads as has-bit-reads
+-- A node whose bit is set comes after those listed.
 use mathlib.Core.Path.{sym, _∙_}
-use native.Mathlib.Omega.{arith}
 use borrow.Author.Tests.{not-true, not-false}
 use Rattle.report.specs.Signing.{hasBit}
 use Rattle.report.proofs.Counting.{not-listed, one-listed}
+use borrow.Author.Needs.{needs}
+use Rattle.report.proofs.signers.with_node.Statement.{statement}
+use Rattle.report.proofs.signers.with_node.Tie as tie
 
 has-bit-requires : tie.Need-has-bit-requires
 has-bit-requires c κs = search needs
 
 returns : tie.Need-returns
 returns c =
-  let s = c .before .before in
-  not-listed (hasBit (s .args .mask)) (s .args .j) (s .args .listing) (s .pre .1) (sym (c .before .has-bit .ensures) ∙ not-true _ (c .if1 .taken))
+    let s = c .before .before in
+    not-listed (hasBit (s .args .mask)) (s .args .j) (s .args .listing) (s .pre .1) (sym (c .before .has-bit .ensures) ∙ not-true _ (c .if1 .taken))
 
 mul-nodes : tie.Need-mul-nodes
 mul-nodes c = search needs
@@ -29,8 +26,8 @@ add-t9 c = search needs
 
 returns-2 : tie.Need-returns-2
 returns-2 c =
-  let s = c .before .before .before in
-  one-listed (hasBit (s .args .mask)) (s .args .j) (s .args .listing) (s .pre .1) (sym (c .before .before .has-bit .ensures) ∙ not-false _ (c .before .if1 .left)) (s .pre .0)
+    let s = c .before .before .before in
+    one-listed (hasBit (s .args .mask)) (s .args .j) (s .args .listing) (s .pre .1) (sym (c .before .before .has-bit .ensures) ∙ not-false _ (c .before .if1 .left)) (s .pre .0)
 
 pub with-node-spec : {M : Type 1} → statement M
 with-node-spec =

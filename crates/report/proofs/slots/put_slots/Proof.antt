@@ -1,23 +1,18 @@
-use borrow.Author.Needs.{needs}
-use Rattle.report.proofs.slots.put_slots.Statement.{statement}
-use Rattle.report.proofs.slots.put_slots.Tie as tie
-use Rattle.report.proofs.slots.put_slots.Reads as reads
-use Rattle.report.proofs.slots.put_slots.Lts as lts
-use Rattle.print.proofs.put_bytes.Reads as put-bytes-reads
-use Rattle.report.proofs.logs.has_bit.Reads as has-bit-reads
-use Rattle.report.proofs.slots.slot_of.Reads as slot-of-reads
+-- Before turn j the slots of the nodes below j stand over the front; the next is written after them.
 use Prim.Native.Nat.{_*_, _-_, _≤_}
-use mathlib.Core.Path.{_≡_, refl, sym, ap, ap₂, _∙_}
-use mathlib.Core.List.{List, _++_}
+use mathlib.Core.Path.{_≡_, refl, ap, _∙_}
+use mathlib.Core.List.{_++_}
 use native.Mathlib.Omega.{arith}
 use denote.Ref.{now}
 use lib.ListN.{length, getD, drop}
-use Rattle.laws.specs.Parts.{onto}
 use Rattle.signing.specs.Slots.{slotSize}
 use Rattle.report.specs.Marks.{markWith}
 use Rattle.report.specs.Spoken.{slotWith, slotsWith}
 use Rattle.report.specs.Signing.{hasBit}
-use Rattle.report.proofs.Speaking.{mark-size, slots-size, none-spoken, next-spoken, all-spoken}
+use Rattle.report.proofs.Speaking.{mark-size, none-spoken, next-spoken, all-spoken}
+use borrow.Author.Needs.{needs}
+use Rattle.report.proofs.slots.put_slots.Statement.{statement}
+use Rattle.report.proofs.slots.put_slots.Tie as tie
 
 abbrev Inv-loop : tie.InvT-loop
 Inv-loop n faulty output₀ numbers j₀ output j =
@@ -28,8 +23,8 @@ abbrev μ-loop : tie.MeasureT-loop
 
 loop-holds : tie.Need-loop-holds Inv-loop μ-loop
 loop-holds c =
-  let a = c .before .args in
-  (omega arith, refl, none-spoken (hasBit (a .faulty)) (λ j. markWith (getD (a .t3) j 0)) (λ j. mark-size (getD (a .t3) j 0)) (now (a .output)))
+    let a = c .before .args in
+    (omega arith, refl, none-spoken (hasBit (a .faulty)) (λ j. markWith (getD (a .t3) j 0)) (λ j. mark-size (getD (a .t3) j 0)) (now (a .output)))
 
 has-bit-requires : tie.Need-has-bit-requires Inv-loop μ-loop
 has-bit-requires c κs = search needs
@@ -45,13 +40,13 @@ mul-put-bytes c = search needs
 
 sub-put-bytes : tie.Need-sub-put-bytes Inv-loop μ-loop
 sub-put-bytes c =
-  let s = c .before .before .before .before .before in
-  omega (arith, c .before .before .before .loop .inv .1, s .pre .1)
+    let s = c .before .before .before .before .before in
+    omega (arith, c .before .before .before .loop .inv .1, s .pre .1)
 
 part-put-bytes-start : tie.Need-part-put-bytes-start Inv-loop μ-loop
 part-put-bytes-start c =
-  let s = c .before .before .before .before .before in
-  omega (arith, c .before .before .before .loop .inv .1, s .pre .1)
+    let s = c .before .before .before .before .before in
+    omega (arith, c .before .before .before .loop .inv .1, s .pre .1)
 
 part-put-bytes-end : tie.Need-part-put-bytes-end Inv-loop μ-loop
 part-put-bytes-end c = search needs
@@ -67,26 +62,26 @@ loop-less c = search needs
 
 loop-again : tie.Need-loop-again Inv-loop μ-loop
 loop-again c =
-  let s = c .before .before .before .before .before .before .before .before .before .before .before .before in
-  let l = c .before .before .before .before .before .before .before .before .before .before .loop in
-  let a = s .args in
-  let slot = c .before .before .before .before .before .before .before .slot-of .ensures ∙ ap (λ b. slotWith b (markWith (getD (a .t3) (l .j) 0))) (c .before .before .before .before .before .before .before .before .has-bit .ensures) in
-  (omega arith, search needs, next-spoken (hasBit (a .faulty)) (λ j. markWith (getD (a .t3) j 0)) (λ j. mark-size (getD (a .t3) j 0)) (now (a .output)) (l .output) (a .n) (l .j) (omega arith) (s .pre .1) (l .inv .2) _ slot (l .inv .1) _ _ (c .before .before .put-bytes .ensures))
+    let s = c .before .before .before .before .before .before .before .before .before .before .before .before in
+    let l = c .before .before .before .before .before .before .before .before .before .before .loop in
+    let a = s .args in
+    let slot = c .before .before .before .before .before .before .before .slot-of .ensures ∙ ap (λ b. slotWith b (markWith (getD (a .t3) (l .j) 0))) (c .before .before .before .before .before .before .before .before .has-bit .ensures) in
+    (omega arith, search needs, next-spoken (hasBit (a .faulty)) (λ j. markWith (getD (a .t3) j 0)) (λ j. mark-size (getD (a .t3) j 0)) (now (a .output)) (l .output) (a .n) (l .j) (omega arith) (s .pre .1) (l .inv .2) _ slot (l .inv .1) _ _ (c .before .before .put-bytes .ensures))
 
 mul-result : tie.Need-mul-result Inv-loop μ-loop
 mul-result c =
-  let s = c .before .before .before in
-  omega (arith, s .pre .0)
+    let s = c .before .before .before in
+    omega (arith, s .pre .0)
 
 same-length : tie.Need-same-length Inv-loop μ-loop
 same-length c =
-  c .before .loop .inv .1
+    c .before .loop .inv .1
 
 returns : tie.Need-returns Inv-loop μ-loop
 returns c =
-  let a = c .before .before .before .args in
-  let l = c .before .loop in
-  (refl, all-spoken (hasBit (a .faulty)) (λ j. markWith (getD (a .t3) j 0)) (λ j. mark-size (getD (a .t3) j 0)) (now (a .output)) (l .output) (a .n) (l .j) (omega arith) (l .inv .2))
+    let a = c .before .before .before .args in
+    let l = c .before .loop in
+    (refl, all-spoken (hasBit (a .faulty)) (λ j. markWith (getD (a .t3) j 0)) (λ j. mark-size (getD (a .t3) j 0)) (now (a .output)) (l .output) (a .n) (l .j) (omega arith) (l .inv .2))
 
 pub put-slots-spec : {M : Type 1} → statement M
 put-slots-spec =
