@@ -1,0 +1,9 @@
+pub mod Made
+pub mod Numbering
+pub mod Speaking
+pub mod Counting
+pub mod Printing
+pub mod Alike
+pub mod Bounds
+pub mod Whole
+pub mod OneLog

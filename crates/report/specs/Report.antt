@@ -1,5 +1,5 @@
 -- What the rehearsal prints of a run that is over: "n, f, then for each correct node, ascending, its number, log and signers".
-use Prim.Native.Nat.{ℕ, _<_, _≤_}
+use Prim.Native.Nat.{ℕ, _*_, _<_, _≤_}
 use mathlib.Core.Path.{_≡_}
 use mathlib.Core.Bool.{Bool}
 use mathlib.Core.List.{List, []}
@@ -15,6 +15,10 @@ use Rattle.report.specs.Lines.{linesText, reportLines}
 abbrev pub reportOf : (n f : ℕ) (faulty : ℕ → Bool) (node : ℕ → Node) → List ℕ
 reportOf n f faulty node = linesText (reportLines n f faulty (λ (i : ℕ). logOf (node i)))
 
+-- bytes of a report, at most: 6,144 for each of sixteen nodes
+abbrev pub textMost : ℕ
+textMost = 6144 * nodesMost
+
 -- node i of those handed over
 abbrev pub nodeAt : List Node → ℕ → Node
 nodeAt nodes i = getD nodes i (record { n = 0; f = 0; me = 0; phase = 0; own = record { count = 0; entries = [] }; kept = [] })
@@ -25,8 +29,9 @@ pub record Writes (w text : List ℕ) (answer : ℕ) (after : List ℕ) : Type 0
   pub answers : length w ≤ length text → answer ≡ length w
   pub leaves : length w ≤ length text → after ≡ onto w text
 
--- what `report_into` promises; nothing is written of more than sixteen nodes
+-- what `report_into` promises: the whole text where there is room for it, and how much room that is at most; nothing is written of more than sixteen nodes
 pub record Reports (n f faulty : ℕ) (nodes : List Node) (text : List ℕ) (answer : ℕ) (after : List ℕ) : Type 0 where
   pub writes : n ≤ nodesMost → Writes (reportOf n f (hasBit faulty) (nodeAt nodes)) text answer after
+  pub most : n ≤ nodesMost → f ≤ nodesMost → length (reportOf n f (hasBit faulty) (nodeAt nodes)) ≤ textMost
   pub nothing : nodesMost < n → answer ≡ 0
   pub untouched : nodesMost < n → after ≡ text

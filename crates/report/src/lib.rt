@@ -12,10 +12,16 @@ use rules::NODES_MOST;
 use signing::SLOT_SIZE;
 
 // Bytes of a report, at most.
-pub const TEXT_MOST: usize = 98304;
+pub const TEXT_MOST: usize = 6144 * NODES_MOST;
 
 // The whole text of a run, over the front of a text that has room for it; how many bytes were written. Node i of `nodes` is node i after round f + 1.
-pub fn report_into(n: usize, f: usize, faulty: u16, nodes: [Node; NODES_MOST], text: &mut [u8]) -> usize
+pub fn report_into(
+    n: usize,
+    f: usize,
+    faulty: u16,
+    nodes: [Node; NODES_MOST],
+    text: &mut [u8],
+) -> usize
     ensures { λ r. ⌜ Reports n f faulty nodes (now (text .entry)) r (now (text .exit)) ⌝ }
 {
     if NODES_MOST < n {

@@ -5,16 +5,15 @@ ghost use mathlib.Core.List.{[], _∷_};
 ghost use Prim.Native.Nat.{_<_, _≤_};
 ghost use lib.ListN.{getD};
 ghost use Rattle.rules.specs.Sizes.{nodesMost};
-ghost use Rattle.closing.specs.Gather.{decidedMost};
+ghost use Rattle.entries.specs.Bytes.{AreEntries};
 ghost use Rattle.print.specs.Texts.{lineText, listText};
 ghost use Rattle.print.specs.declared.Items.the-variants.{Entries, Nodes};
 ghost use Rattle.report.specs.Marks.{markWith};
 ghost use Rattle.report.specs.Signing.{countedWith, hasBit, nodesThat};
 ghost use Rattle.report.specs.Lines.{allLines, linesText, logKey, nodeLines, signersKey, sizesLines};
 ghost use Rattle.report.specs.Report.{Writes};
-ghost use Rattle.report.specs.Held.{AllFit, heldAt, logIn};
+ghost use Rattle.report.specs.Held.{AllEntries, AllFit, Fits, heldAt, logIn};
 use crate::logs::HeldLog;
-use crate::logs::MADE_MOST;
 use crate::logs::has_bit;
 use crate::signers;
 use print::Items;
@@ -29,13 +28,11 @@ pub(crate) fn put_sizes(text: &mut [u8], n: usize, f: usize) -> usize
     a + b
 }
 
-// A log, the first of some places.
-fn put_log(text: &mut [u8], count: usize, places: &[u64; MADE_MOST]) -> usize
-    requires { ⌜ count ≤ decidedMost ⌝ }
-    ensures { λ r. ⌜ Writes (lineText logKey (listText Entries (logIn (record { count = count; entries = now (places .entry) })))) (now (text .entry)) r (now (text .exit)) ⌝ }
+// A log; its entries are 64-bit numbers by their type.
+fn put_log(text: &mut [u8], entries: &[u64]) -> usize
+    ensures { λ r. ⌜ Writes (lineText logKey (listText Entries (now (entries .entry)))) (now (text .entry)) r (now (text .exit)) × AreEntries (now (entries .entry)) ⌝ }
 {
-    let all: &[u64] = places;
-    print::put_list_line(text, b"log=", Items::Entries, &all[..count])
+    print::put_list_line(text, b"log=", Items::Entries, entries)
 }
 
 // The nodes whose bit is set.
@@ -51,20 +48,31 @@ fn put_signers(text: &mut [u8], n: usize, mask: u16) -> usize
 
 // Node i: its number, log and signers.
 fn put_node(text: &mut [u8], n: usize, i: usize, log: HeldLog, mask: u16) -> usize
-    requires { ⌜ (n ≤ nodesMost) × (log .count ≤ decidedMost) ⌝ }
-    ensures { λ r. ⌜ Writes (linesText (nodeLines i (logIn log) (nodesThat (hasBit mask) n))) (now (text .entry)) r (now (text .exit)) ⌝ }
+    requires { ⌜ (n ≤ nodesMost) × Fits log ⌝ }
+    ensures { λ r. ⌜ Writes (linesText (nodeLines i (logIn log) (nodesThat (hasBit mask) n))) (now (text .entry)) r (now (text .exit)) × AreEntries (logIn log) ⌝ }
 {
     let a = print::put_number_line(text, b"node=", i as u64);
-    let b = put_log(&mut text[a..], log.count, &log.entries);
+    let count = log.count;
+    let entries = log.entries;
+    let b = put_log(&mut text[a..], &entries[..count]);
     let at = a + b;
     let c = put_signers(&mut text[at..], n, mask);
     at + c
 }
 
 // Node i where it is correct; nothing of a faulty one.
-fn put_correct(text: &mut [u8], n: usize, f: usize, faulty: u16, i: usize, log: HeldLog, number: u8, slots: &[u8]) -> usize
-    requires { ⌜ (n ≤ nodesMost) × (i < n) × (hasBit faulty i ≡ false → log .count ≤ decidedMost) ⌝ }
-    ensures { λ r. ⌜ Writes (linesText (cond (hasBit faulty i) [] (nodeLines i (logIn log) (nodesThat (hasBit (countedWith n f i (markWith number) (now (slots .entry)))) n)))) (now (text .entry)) r (now (text .exit)) ⌝ }
+fn put_correct(
+    text: &mut [u8],
+    n: usize,
+    f: usize,
+    faulty: u16,
+    i: usize,
+    log: HeldLog,
+    number: u8,
+    slots: &[u8],
+) -> usize
+    requires { ⌜ (n ≤ nodesMost) × (i < n) × (hasBit faulty i ≡ false → Fits log) ⌝ }
+    ensures { λ r. ⌜ Writes (linesText (cond (hasBit faulty i) [] (nodeLines i (logIn log) (nodesThat (hasBit (countedWith n f i (markWith number) (now (slots .entry)))) n)))) (now (text .entry)) r (now (text .exit)) × (hasBit faulty i ≡ false → AreEntries (logIn log)) ⌝ }
 {
     if has_bit(faulty, i) {
         return 0;
@@ -84,7 +92,7 @@ pub(crate) fn put_nodes(
     slots: &[u8],
 ) -> usize
     requires { ⌜ (n ≤ nodesMost) × AllFit (hasBit faulty) n logs ⌝ }
-    ensures { λ r. ⌜ Writes (linesText (allLines (hasBit faulty) (λ i. logIn (heldAt logs i)) (λ i. nodesThat (hasBit (countedWith n f i (markWith (getD numbers i 0)) (now (slots .entry)))) n) n)) (now (text .entry)) r (now (text .exit)) ⌝ }
+    ensures { λ r. ⌜ Writes (linesText (allLines (hasBit faulty) (λ i. logIn (heldAt logs i)) (λ i. nodesThat (hasBit (countedWith n f i (markWith (getD numbers i 0)) (now (slots .entry)))) n) n)) (now (text .entry)) r (now (text .exit)) × AllEntries (hasBit faulty) (λ i. logIn (heldAt logs i)) n ⌝ }
 {
     let mut at = 0;
     let mut i = 0;

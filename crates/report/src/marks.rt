@@ -20,7 +20,12 @@ pub(crate) struct Numbers {
 }
 
 // Whether the first of some places hold what the first of others do.
-fn is_same_log(many: usize, places: &[u64; MADE_MOST], count: usize, others: &[u64; MADE_MOST]) -> bool
+fn is_same_log(
+    many: usize,
+    places: &[u64; MADE_MOST],
+    count: usize,
+    others: &[u64; MADE_MOST],
+) -> bool
     requires { ⌜ (many ≤ decidedMost) × (count ≤ decidedMost) ⌝ }
     ensures { λ r. ⌜ r ≡ same (logIn (record { count = many; entries = now (places .entry) })) (logIn (record { count = count; entries = now (others .entry) })) ⌝ }
 {

@@ -31,7 +31,12 @@ fn slot_of(faulty: bool, number: u8) -> Slot
 }
 
 // The slots of n nodes, by the numbers of their logs; how many bytes they are.
-pub(crate) fn put_slots(n: usize, faulty: u16, numbers: [u8; NODES_MOST], output: &mut [u8]) -> usize
+pub(crate) fn put_slots(
+    n: usize,
+    faulty: u16,
+    numbers: [u8; NODES_MOST],
+    output: &mut [u8],
+) -> usize
     requires { ⌜ (n ≤ nodesMost) × (slotSize * n ≤ length (now output)) ⌝ }
     ensures { λ r. ⌜ (r ≡ slotSize * n) × (now (output .exit) ≡ onto (slotsWith (hasBit faulty) (λ j. markWith (getD numbers j 0)) n) (now (output .entry))) ⌝ }
 {

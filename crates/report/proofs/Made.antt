@@ -1,0 +1,165 @@
+-- The log that a node makes is what its close writes over empty places; it has no more entries than there are places.
+use Prim.Native.Nat.{ℕ, zero, suc, _+_, _*_, _≤_, _<_}
+use mathlib.Core.Path.{_≡_, refl, sym, ap, _∙_}
+use mathlib.Core.Logic.{_≢_, ⊎-elim, inl}
+use mathlib.Core.Bool.{Bool, true, false, cond}
+use mathlib.Core.List.{List, [], _∷_}
+use native.Mathlib.Nat.{not-suc-le-zero, le-of-suc-le-suc, eq-or-lt-of-le}
+use native.Mathlib.Numerals.{add-one}
+use native.Mathlib.Omega.{arith}
+use borrow.Author.Tests.{le-leb, leb-true, eqb-true, eqb-false}
+use lib.Dec.{eqb, leb}
+use lib.ListN.{length, drop, set, replicate, length-set}
+use lib.Seq.{take-at, getD-set-same, getD-set-other}
+use Rattle.laws.specs.Members.{In}
+use Rattle.laws.specs.Parts.{onto}
+use Rattle.laws.proofs.Tests.{clash}
+use Rattle.laws.proofs.Lent.{onto-length}
+use Rattle.rules.specs.Sizes.{nodesMost, batchMost, fits, isBatch, isLog}
+use Rattle.rules.specs.Refusals.{refuse_unless_then_, ifDone}
+use Rattle.rules.specs.Step.{gather}
+use Rattle.rules.specs.Log.{onlyKept, decision, decisions, joined}
+use Rattle.rules.proofs.Refusals.{row-passed}
+use Rattle.rules.proofs.Sizes.{sizes-told}
+use Rattle.rules.proofs.Joins.{join-most, joined-more}
+use Rattle.entries.specs.Bytes.{AreEntries}
+use Rattle.node.specs.Batches.{entriesOf}
+use Rattle.node.specs.State.{keptFor, soundNode}
+use Rattle.node.specs.declared.Node.{Node}
+use Rattle.node.proofs.Sound.{sound-told, sound-right}
+use Rattle.tray.proofs.Sound.{batch-parts}
+use Rattle.closing.specs.Close.{newLogOf, closeNumber, Close}
+use Rattle.closing.specs.Gather.{decidedMost}
+use Rattle.closing.specs.declared.Closed.{Closed}
+use Rattle.report.specs.Logs.{logOf}
+use Rattle.report.specs.Signing.{hasBit}
+use Rattle.report.specs.Held.{heldAs, heldAt, logIn, AllFit, AllHeld, AllEntries}
+use Rattle.report.specs.declared.logs.HeldLog.{HeldLog}
+
+-- ---- one log
+
+-- what a call gives that is done, laid into its places, is the places that it gives
+done-count : (row : ℕ) (log : List ℕ) → ifDone row (length log) 0 ≡ length (ifDone row log [])
+done-count zero log = refl
+done-count (suc row) log = refl
+
+done-places : (row : ℕ) (log places : List ℕ) → ifDone row (onto log places) places ≡ onto (ifDone row log []) places
+done-places zero log places = refl
+done-places (suc row) log places = refl
+
+pub close-holds : (s : Node) (r : Closed) (after : List ℕ) → Close s [] (replicate decidedMost 0) r after
+    → _≡_ {A = HeldLog} (record { count = r .length; entries = after }) (heldAs (logOf s))
+unfolding logOf
+close-holds s r after h =
+    let e : r .length ≡ length (ifDone (closeNumber s [] decidedMost) (newLogOf s []) []) = h .size ∙ done-count (closeNumber s [] decidedMost) (newLogOf s []) in
+    let p : after ≡ onto (ifDone (closeNumber s [] decidedMost) (newLogOf s []) []) (replicate decidedMost 0) =
+    h .output-is ∙ done-places (closeNumber s [] decidedMost) (newLogOf s []) (replicate decidedMost 0) in
+    λ i. record { count = e i; entries = p i }
+
+-- a close that is not refused has room for the new log
+room-passed : (s : Node) (room : ℕ) → closeNumber s [] room ≡ 0 → length (newLogOf s []) ≤ room
+unfolding closeNumber
+room-passed s room h =
+    let room-row : ℕ = refuse 9 unless leb (length (newLogOf s [])) room then 0 in
+    let full-row : ℕ = refuse 8 unless fits (newLogOf s []) then room-row in
+    let log-row : ℕ = refuse 7 unless isLog [] then full-row in
+    let a = row-passed 1 (soundNode s) (refuse 3 unless leb (s .f + 2) (s .phase) then log-row) h .1 in
+    let b = row-passed 2 (leb (s .f + 2) (s .phase)) log-row a .1 in
+    let c = row-passed 6 (isLog []) full-row b .1 in
+    let d = row-passed 7 (fits (newLogOf s [])) room-row c .1 in
+    leb-true (length (newLogOf s [])) room (row-passed 8 (leb (length (newLogOf s [])) room) 0 d .0)
+
+pub log-most : (s : Node) → length (logOf s) ≤ decidedMost
+unfolding logOf
+log-most s = go (closeNumber s [] decidedMost) refl
+  where
+    go : (row : ℕ) → closeNumber s [] decidedMost ≡ row → length (ifDone row (newLogOf s []) []) ≤ decidedMost
+    go zero e = room-passed s decidedMost e
+    go (suc row) e = omega arith
+
+-- ---- all logs
+
+pub held-log : (log : List ℕ) → logIn (heldAs log) ≡ log
+held-log log = take-at log (drop (length log) (replicate decidedMost 0)) (length log) refl
+
+-- a faulty node's place is left as it is, a correct one's holds its log
+module _ (faulty i : ℕ) (logs : List HeldLog) (log : List ℕ) where
+  pub held-already : hasBit faulty i ≡ true → logs ≡ cond (hasBit faulty i) logs (set logs i (heldAs log))
+  held-already e = simp e
+
+  pub held-now : hasBit faulty i ≡ false → (held : HeldLog) → held ≡ heldAs log → set logs i held ≡ cond (hasBit faulty i) logs (set logs i (heldAs log))
+  held-now e held h = simp e (ap (set logs i) h)
+
+pub held-places : (faulty i : ℕ) (logs : List HeldLog) (held : HeldLog) (after : List HeldLog) → after ≡ cond (hasBit faulty i) logs (set logs i held)
+    → length after ≡ length logs
+held-places faulty i logs held after e = ap length e ∙ go (hasBit faulty i)
+  where
+    go : (b : Bool) → length (cond b logs (set logs i held)) ≡ length logs
+    go true = refl
+    go false = length-set logs i held
+
+module _ (t : ℕ → Bool) (log : ℕ → List ℕ) where
+  pub none-held : (logs : List HeldLog) → AllHeld t log 0 logs
+  none-held logs j l = absurd (not-suc-le-zero l)
+
+  -- one turn: the log of node i is held too, where it is correct
+  pub one-held : (i : ℕ) (logs after : List HeldLog) → i < length logs → AllHeld t log i logs → after ≡ cond (t i) logs (set logs i (heldAs (log i)))
+      → AllHeld t log (i + 1) after
+  one-held i logs after l h e j m f = go (t i) refl (eqb j i) refl
+    where
+      below : eqb j i ≡ false → j < i
+      below q = let d : j ≢ i = eqb-false j i q in omega arith
+
+      at : (x : List HeldLog) → after ≡ x → heldAt after j ≡ heldAt x j
+      at x q = ap (λ (y : List HeldLog). heldAt y j) q
+
+      go : (b : Bool) → t i ≡ b → (q : Bool) → eqb j i ≡ q → heldAt after j ≡ heldAs (log j)
+      go true p true q = absurd (clash p (ap t (sym (eqb-true j i q)) ∙ f))
+      go true p false q = at logs (e ∙ simp p) ∙ h j (below q) f
+      go false p true q =
+          let z : j ≡ i = eqb-true j i q in
+          at (set logs i (heldAs (log i))) (e ∙ simp p) ∙ rw z (getD-set-same logs i (heldAs (log i)) _ l)
+      go false p false q = at (set logs i (heldAs (log i))) (e ∙ simp p) ∙ getD-set-other logs i j (heldAs (log i)) _ (eqb-false j i q) ∙ h j (below q) f
+
+  pub held-fit : ((j : ℕ) → length (log j) ≤ decidedMost) → (n : ℕ) (logs : List HeldLog) → AllHeld t log n logs → AllFit t n logs
+  held-fit most n logs h j l f =
+      let e = h j l f in
+      let places : length (onto (log j) (replicate decidedMost 0)) ≡ decidedMost = onto-length (log j) (replicate decidedMost 0) (most j) in
+      record { few = omega (arith, ap (λ (x : HeldLog). x .count) e, most j); places = ap (λ (x : HeldLog). length (x .entries)) e ∙ places }
+
+  pub one-more-entries : (i : ℕ) → AllEntries t log i → (t i ≡ false → AreEntries (log i)) → AllEntries t log (i + 1)
+  one-more-entries i h e j l f = ⊎-elim (λ q. rw q (e (ap t (sym q) ∙ f))) (λ k. h j k f) (eq-or-lt-of-le (le-of-suc-le-suc (rw (sym (add-one i)) l)))
+
+-- ---- the log of a sound node after the last round
+
+module _ (s : Node) (sound : soundNode s ≡ true) where
+  decision-most : (p : ℕ) → p < nodesMost → length (decision (s .me) (entriesOf (s .own)) p (keptFor s p)) ≤ batchMost
+  unfolding decision
+  decision-most p l = go (eqb p (s .me)) (keptFor s p) (sound-right s sound .keeps .keepable p l .each)
+    where
+      batch : (b : List ℕ) → isBatch b ≡ true → length b ≤ batchMost
+      batch b h = batch-parts b h .0
+
+      go : (q : Bool) (bs : List (List ℕ)) → ((b : List ℕ) → In b bs → isBatch b ≡ true) → length (cond q (entriesOf (s .own)) (onlyKept bs)) ≤ batchMost
+      go true bs h = batch (entriesOf (s .own)) (sound-right s sound .own-batch)
+      go false [] h = omega arith
+      go false (b ∷ []) h = batch b (h b (inl refl))
+      go false (b ∷ c ∷ bs) h = omega arith
+
+  decisions-most : (p : ℕ) → p ≤ nodesMost → length (joined [] (decisions p (s .me) (entriesOf (s .own)) (keptFor s))) ≤ batchMost * p
+  unfolding decisions gather
+  decisions-most zero l = omega arith
+  decisions-most (suc p) l =
+      let before : List (List ℕ) = gather (λ (q : ℕ). decision (s .me) (entriesOf (s .own)) q (keptFor s q) ∷ []) p in
+      let d : List ℕ = decision (s .me) (entriesOf (s .own)) p (keptFor s p) in
+      omega (arith, ap length (joined-more [] before d), join-most (joined [] before) d, decisions-most p (omega arith), decision-most p (omega arith))
+
+  pub new-log-most : length (newLogOf s []) ≤ decidedMost
+  new-log-most = omega (arith, decisions-most (s .n) (sizes-told (s .n) (s .f) (s .me) (sound-told s sound .numbers) .most), sizes-told (s .n) (s .f) (s .me) (sound-told s sound .numbers) .most)
+
+  -- it is the empty log joined with all n decisions
+  pub makes-log : s .f + 2 ≤ s .phase → logOf s ≡ newLogOf s []
+  unfolding logOf closeNumber isLog fits
+  makes-log over =
+      let l : length (newLogOf s []) ≤ 4096 = omega (arith, new-log-most) in
+      simp (sound, le-leb _ _ over, le-leb _ _ l, le-leb _ _ new-log-most)
