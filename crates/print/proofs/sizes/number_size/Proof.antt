@@ -1,34 +1,41 @@
+-- The digits of v are those counted and those of what is left.
+use Prim.Native.Nat.{_+_, _≤_}
+use mathlib.Core.Path.{_≡_}
+use native.Mathlib.Omega.{arith}
 use borrow.Author.Needs.{needs}
+use lib.ListN.{length}
+use Rattle.print.specs.Texts.{decimalOf}
+use Rattle.print.proofs.Lengths.{decimal-bound}
+use Rattle.print.proofs.Printing.{small-length, step-length}
 use Rattle.print.proofs.sizes.number_size.Statement.{statement}
 use Rattle.print.proofs.sizes.number_size.Tie as tie
-use Rattle.print.proofs.sizes.number_size.Reads as reads
-use Rattle.print.proofs.sizes.number_size.Lts as lts
 
 abbrev Inv-loop : tie.InvT-loop
-Inv-loop v left₀ size₀ left size = ?
+Inv-loop v left₀ size₀ left size = (left ≤ v) × (length (decimalOf v) + 1 ≡ size + length (decimalOf left))
 
 abbrev μ-loop : tie.MeasureT-loop
-μ-loop v left₀ size₀ left size = ?
+μ-loop v left₀ size₀ left size = left
 
--- src/sizes.rt:15:5
 loop-holds : tie.Need-loop-holds Inv-loop μ-loop
-loop-holds c = search needs
+loop-holds c = (omega arith, omega arith)
 
--- src/sizes.rt:17:9
 add-size : tie.Need-add-size Inv-loop μ-loop
-add-size c = search needs
+add-size c = omega (arith, c .before .loop .inv .1, decimal-bound 19 (c .before .before .args .v) (omega arith))
 
--- src/sizes.rt:15:5
 loop-less : tie.Need-loop-less Inv-loop μ-loop
 loop-less c = search needs
 
--- src/sizes.rt:15:5
 loop-again : tie.Need-loop-again Inv-loop μ-loop
-loop-again c = search needs
+loop-again c =
+    let l = c .before .loop in
+    (omega arith, omega (arith, l .inv .1, step-length (l .left) (c .loop-test .taken)))
 
--- src/sizes.rt:10:1
 returns : tie.Need-returns Inv-loop μ-loop
-returns c = search needs
+returns c =
+    let v = c .before .before .args .v in
+    let l = c .before .loop in
+    let last = small-length (l .left) (c .loop-test .left) in
+    (omega (arith, l .inv .1, last), omega (arith, l .inv .1, last, decimal-bound 19 v (omega arith)))
 
 pub number-size-spec : {M : Type 1} → statement M
 number-size-spec =
