@@ -1,16 +1,10 @@
--- A text written over the front of one that has room for the longest report.
+-- The text of a rehearsal, written over the front of one that has room for the longest.
 use Prim.Native.Nat.{ℕ, _≤_}
-use mathlib.Core.Path.{_≡_}
 use mathlib.Core.List.{List}
 use lib.ListN.{length}
-use Rattle.laws.specs.Parts.{onto}
+use Rattle.report.specs.Report.{textMost, Writes}
 
--- bytes of a report, at most
-abbrev pub textMost : ℕ
-textMost = 98304
-
--- w is written: how many bytes, and the text afterwards
+-- w is to be written, and is no longer than the longest report
 pub record Tells (w text : List ℕ) (answer : ℕ) (after : List ℕ) : Type 0 where
-  pub within : answer ≤ length text
-  pub answers : textMost ≤ length text → answer ≡ length w
-  pub leaves : textMost ≤ length text → after ≡ onto w text
+  pub writes : Writes w text answer after
+  pub most : length w ≤ textMost

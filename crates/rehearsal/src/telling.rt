@@ -1,25 +1,26 @@
 // The text of a rehearsal, over the front of a text that has room for the longest.
 ghost use mathlib.Core.Path.{_≡_};
-ghost use lib.ListN.{length};
-ghost use Prim.Native.Nat.{_≤_};
-ghost use Rattle.rehearsal.specs.Rehearsal.{playedText, rehearsalOf};
-ghost use Rattle.played.specs.Playing.{breach};
-ghost use Rattle.rehearsal.specs.Telling.{Tells};
 ghost use Rattle.schedule.specs.Forms.{formOf};
 ghost use Rattle.schedule.specs.declared.Form.the-variants.{Good};
+ghost use Rattle.played.specs.Playing.{breach};
+ghost use Rattle.rehearsal.specs.Rehearsal.{playedText, rehearsalOf};
+ghost use Rattle.rehearsal.specs.Telling.{Tells};
 use schedule::Form;
 
-// A schedule of good form.
+// A schedule of good form: the line of the first send that breaks the rule, or what its run comes to.
 fn tell_played(schedule: &[u8], n: usize, f: usize, text: &mut [u8]) -> usize
-    ensures { λ r. ⌜ formOf (now (schedule .entry)) ≡ Good n f → Tells (playedText (now (schedule .entry)) n f (breach (now (schedule .entry)) n f)) (now (text .entry)) r (now (text .exit)) ⌝ }
+    requires { ⌜ formOf (now schedule) ≡ Good n f ⌝ }
+    ensures { λ r. ⌜ Tells (playedText (now (schedule .entry)) n f (breach (now (schedule .entry)) n f)) (now (text .entry)) r (now (text .exit)) ⌝ }
 {
     let played = played::play(schedule, n, f);
-    if 0 < played.bad {
-        return print::put_number_line(text, b"bad=", played.bad as u64);
+    let bad = played.bad;
+    if 0 < bad {
+        return print::put_number_line(text, b"bad=", bad as u64);
     }
     report::report_into(n, f, contents::faulty_mask(schedule), played.nodes, text)
 }
 
+// The whole text.
 pub(crate) fn tell(schedule: &[u8], text: &mut [u8]) -> usize
     ensures { λ r. ⌜ Tells (rehearsalOf (now (schedule .entry))) (now (text .entry)) r (now (text .exit)) ⌝ }
 {

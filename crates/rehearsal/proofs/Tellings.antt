@@ -1,0 +1,113 @@
+-- What is told of a schedule: a bad line is short, and what was played is what the report asks for: the nodes after the last round, and who is faulty.
+use Prim.Native.Nat.{ℕ, zero, suc, _+_, _^_, _≤_, _<_}
+use mathlib.Core.Path.{_≡_, refl, sym, ap, ap₂, subst, _∙_}
+use mathlib.Core.Bool.{Bool, true, false}
+use mathlib.Core.List.{List, [], _∷_}
+use native.Mathlib.Nat.{le-trans}
+use native.Mathlib.Numerals.{add-one}
+use native.Mathlib.Omega.{arith}
+use borrow.Author.Tests.{lt-ltb, eq-eqb}
+use lib.Dec.{eqb, ltb}
+use lib.ListN.{length, getD}
+use Rattle.laws.specs.Masks.{bit, asBit, maskOf}
+use Rattle.laws.proofs.Bits.{mask-bit}
+use Rattle.rules.specs.Sizes.{nodesMost}
+use Rattle.rules.proofs.Gathered.{each-at}
+use Rattle.rules.proofs.Sizes.{sized-most}
+use Rattle.node.specs.declared.Node.{Node}
+use Rattle.agreement.specs.Hall.{Hall, nodeAfter}
+use Rattle.text.specs.Put.{Put}
+use Rattle.print.specs.Texts.{decimalOf, lineText}
+use Rattle.schedule.specs.Forms.{formOf}
+use Rattle.schedule.specs.declared.Form.the-variants.{Good}
+use Rattle.contents.specs.Contents.{isFaulty}
+use Rattle.contents.proofs.Good.{good-sizes}
+use Rattle.played.specs.Standing.{correct, nodeBefore, stoodAt}
+use Rattle.played.specs.Playing.{hallOf, breach, goodAs, playedTo, playedOf}
+use Rattle.played.specs.declared.Played.{Played}
+use Rattle.report.specs.Signing.{hasBit}
+use Rattle.report.specs.Report.{reportOf, textMost, nodeAt, Writes, Reports}
+use Rattle.report.proofs.Printing.{put-writes, writes-as}
+use Rattle.report.proofs.Bounds.{decimal-most, line-length}
+use Rattle.report.proofs.Alike.{same-nodes}
+use Rattle.rehearsal.specs.Rehearsal.{badKey, badText, playedText}
+use Rattle.rehearsal.specs.Telling.{Tells}
+
+-- ---- a bad line
+
+-- its number is a machine's word
+pub bad-tells : (k : ℕ) (w text : List ℕ) (r : ℕ) (after : List ℕ) → k < 2 ^ 64 → w ≡ badText k → Put (badText k) text r after → Tells w text r after
+bad-tells k w text r after l e p = record {
+  writes = writes-as (badText k) w text r after (sym e) (put-writes (badText k) text r after p);
+  most = subst (λ (x : List ℕ). length x ≤ textMost) (sym e) (omega (arith, line-length badKey (decimalOf k), decimal-most 19 k (omega arith)));
+}
+
+-- ---- what was played
+
+module _ (s : List ℕ) (n f : ℕ) (good : formOf s ≡ Good n f) where
+  abbrev hall : Hall
+  hall = hallOf s n f
+
+  is-played : playedOf s n f ≡ playedTo hall (breach s n f)
+  unfolding playedOf goodAs
+  is-played = simp (good, eq-eqb n n refl, eq-eqb f f refl)
+
+  module _ (p : Played) (e : p ≡ playedOf s n f) where
+    bad-is : p .bad ≡ breach s n f
+    bad-is = ap (λ (x : Played). x .bad) (e ∙ is-played) ∙ go (breach s n f)
+      where
+        go : (k : ℕ) → playedTo hall k .bad ≡ k
+        unfolding playedTo
+        go zero = refl
+        go (suc k) = refl
+
+    -- the first send that breaks the rule
+    pub broken : 0 < p .bad → playedText s n f (breach s n f) ≡ badText (p .bad)
+    broken l = go (breach s n f) refl
+      where
+        go : (k : ℕ) → breach s n f ≡ k → playedText s n f (breach s n f) ≡ badText (p .bad)
+        unfolding playedText
+        go zero q = absurd (omega (arith, bad-is))
+        go (suc k) q = ap (playedText s n f) q ∙ ap badText (sym (bad-is ∙ q))
+
+    -- ---- the nodes after the last round
+
+    module _ (none : p .bad ≡ 0) where
+      nodes-are : p .nodes ≡ playedTo hall 0 .nodes
+      nodes-are = ap (λ (x : Played). x .nodes) (e ∙ is-played ∙ ap (playedTo hall) (sym bad-is ∙ none))
+
+      node-is : (i : ℕ) → i < n → isFaulty s i ≡ false → nodeAfter hall i (f + 1) ≡ nodeAt (p .nodes) i
+      unfolding playedTo nodeBefore
+      node-is i l h =
+          let within : i < nodesMost = le-trans l (sized-most n (good-sizes s n f good .0)) in
+          let fine : correct hall i ≡ true = simp (lt-ltb i n l, h) in
+          sym (ap (λ (ns : List Node). nodeAt ns i) nodes-are
+              ∙ each-at (λ (j : ℕ). stoodAt hall (suc (suc f)) j .node) _ nodesMost i within
+              ∙ simp fine
+              ∙ ap (nodeAfter hall i) (sym (add-one f)))
+
+      faulty-is : (j : ℕ) → j < n → isFaulty s j ≡ hasBit (maskOf (isFaulty s) nodesMost) j
+      faulty-is j l =
+          let within : j < nodesMost = le-trans l (sized-most n (good-sizes s n f good .0)) in
+          sym (ap (λ (x : ℕ). eqb x 1) (mask-bit (isFaulty s) nodesMost j ∙ simp (lt-ltb j nodesMost within)) ∙ as-test (isFaulty s j))
+        where
+          as-test : (b : Bool) → eqb (asBit b) 1 ≡ b
+          as-test true = refl
+          as-test false = refl
+
+      reported : playedText s n f (breach s n f) ≡ reportOf n f (hasBit (maskOf (isFaulty s) nodesMost)) (nodeAt (p .nodes))
+      unfolding playedText
+      reported =
+          ap (playedText s n f) (sym bad-is ∙ none)
+          ∙ same-nodes n (isFaulty s) (hasBit (maskOf (isFaulty s) nodesMost)) faulty-is (λ (i : ℕ). nodeAfter hall i (f + 1)) (nodeAt (p .nodes)) node-is f
+
+      pub report-tells : (m : ℕ) → m ≡ maskOf (isFaulty s) nodesMost → (text : List ℕ) (r : ℕ) (after : List ℕ) → Reports n f m (p .nodes) text r after
+          → Tells (playedText s n f (breach s n f)) text r after
+      report-tells m q text r after w =
+          let sizes = good-sizes s n f good in
+          let nodes : n ≤ nodesMost = sized-most n (sizes .0) in
+          let t : Reports n f (maskOf (isFaulty s) nodesMost) (p .nodes) text r after = subst (λ (x : ℕ). Reports n f x (p .nodes) text r after) q w in
+          record {
+            writes = writes-as _ (playedText s n f (breach s n f)) text r after (sym reported) (t .writes nodes);
+            most = subst (λ (x : List ℕ). length x ≤ textMost) (sym reported) (t .most nodes (omega (arith, sizes .1)));
+          }
