@@ -73,7 +73,7 @@ sendsOf s = sendsIn (drop (headerSize + headerOf s .n) (linesOf s))
 
 -- the line number of the k-th send, counted from 0
 abbrev pub sendLine : List ℕ → ℕ → ℕ
-sendLine s k = suc headerSize + headerOf s .n + k
+sendLine s k = headerSize + 1 + headerOf s .n + k
 
 -- the k-th send as it is handed on, without its message
 unfoldable pub sendingAt : List Send → ℕ → Sending

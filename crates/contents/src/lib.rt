@@ -31,9 +31,10 @@ pub fn tray_of(s: &[u8], i: usize) -> Tray
 {
     let line = text::first_line(text::past_lines(text::past_lines(s, HEADER_SIZE), i));
     let listed = text::line_list(line, b"tray=", Kind::Entry);
+    let entries = listed.items;
     Tray {
         count: listed.count,
-        entries: listed.items,
+        entries,
     }
 }
 

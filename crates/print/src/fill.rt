@@ -5,7 +5,7 @@ ghost use Prim.Native.Nat.{_≤_};
 ghost use lib.ListN.{length};
 ghost use Rattle.laws.specs.Parts.{onto};
 ghost use Rattle.text.specs.Places.{comma, lf};
-ghost use Rattle.print.specs.Texts.{decimalOf, entryText, itemText, lineText, listText, lowText};
+ghost use Rattle.print.specs.Texts.{decimalOf, entryText, itemText, lineText, listText, lowText, moreText};
 use crate::Items;
 use text::COMMA;
 use text::DOT;
@@ -89,6 +89,21 @@ fn more(output: &mut [u8], kind: Items, x: u64) -> usize
     1 + k
 }
 
+// Items, each with a comma before it.
+fn all_more(output: &mut [u8], kind: Items, xs: &[u64]) -> usize
+    requires { ⌜ length (moreText kind (now xs)) ≤ length (now output) ⌝ }
+    ensures { λ r. ⌜ (r ≡ length (moreText kind (now (xs .entry)))) × (now (output .exit) ≡ onto (moreText kind (now (xs .entry))) (now (output .entry))) ⌝ }
+{
+    let mut at: usize = 0;
+    let mut i: usize = 0;
+    while i < xs.len() {
+        let k = more(&mut output[at..], kind, xs[i]);
+        at += k;
+        i += 1;
+    }
+    at
+}
+
 // Items by commas.
 fn list(output: &mut [u8], kind: Items, xs: &[u64]) -> usize
     requires { ⌜ length (listText kind (now xs)) ≤ length (now output) ⌝ }
@@ -97,14 +112,9 @@ fn list(output: &mut [u8], kind: Items, xs: &[u64]) -> usize
     if xs.len() == 0 {
         return 0;
     }
-    let mut at: usize = item(output, kind, xs[0]);
-    let mut i: usize = 1;
-    while i < xs.len() {
-        let k = more(&mut output[at..], kind, xs[i]);
-        at += k;
-        i += 1;
-    }
-    at
+    let a = item(output, kind, xs[0]);
+    let b = all_more(&mut output[a..], kind, &xs[1..]);
+    a + b
 }
 
 // Items by commas, and LF.

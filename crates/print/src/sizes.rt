@@ -3,7 +3,7 @@ ghost use mathlib.Core.Path.{_≡_};
 ghost use Prim.Native.Nat.{_≤_};
 ghost use lib.Dec.{leb};
 ghost use lib.ListN.{length};
-ghost use Rattle.print.specs.Texts.{decimalOf, itemText, listText};
+ghost use Rattle.print.specs.Texts.{decimalOf, itemText, listText, moreText};
 use crate::Items;
 
 // The digits of a number.
@@ -33,6 +33,23 @@ fn item_size(kind: Items, x: u64) -> usize
     }
 }
 
+// Whether items, each with a comma before it, have no more bytes than there is room for.
+fn more_fits(kind: Items, xs: &[u64], room: usize) -> bool
+    ensures { λ r. ⌜ r ≡ leb (length (moreText kind (now (xs .entry)))) room ⌝ }
+{
+    let mut left = room;
+    let mut i = 0;
+    while i < xs.len() {
+        let size = 1 + item_size(kind, xs[i]);
+        if left < size {
+            return false;
+        }
+        left -= size;
+        i += 1;
+    }
+    true
+}
+
 // Whether a list has no more bytes than there is room for.
 pub(crate) fn list_fits(kind: Items, xs: &[u64], room: usize) -> bool
     ensures { λ r. ⌜ r ≡ leb (length (listText kind (now (xs .entry)))) room ⌝ }
@@ -40,14 +57,9 @@ pub(crate) fn list_fits(kind: Items, xs: &[u64], room: usize) -> bool
     if xs.len() == 0 {
         return true;
     }
-    let mut size = item_size(kind, xs[0]);
-    let mut i = 1;
-    while i < xs.len() {
-        if room < size {
-            return false;
-        }
-        size = size + 1 + item_size(kind, xs[i]);
-        i += 1;
+    let first = item_size(kind, xs[0]);
+    if room < first {
+        return false;
     }
-    size <= room
+    more_fits(kind, &xs[1..], room - first)
 }

@@ -1,5 +1,5 @@
 -- "in this order: `n`, `f`, `faulty` (ascending node numbers by commas, or empty)"; "n by its size, f by 2f < n, more than f faulty at the `faulty` line".
-use Prim.Native.Nat.{ℕ, suc, _*_}
+use Prim.Native.Nat.{ℕ, _+_, _*_}
 use mathlib.Core.Bool.{cond}
 use mathlib.Core.List.{List, [], _∷_}
 use mathlib.Core.Option.{Option, none, some}
@@ -64,7 +64,7 @@ andThen (BadAt k) rest = BadAt k
 -- the lines with these keys, of which the first is line k; a missing line is empty, and so bad
 unfoldable pub headFrom : List Key → ℕ → Header → List (List ℕ) → Headed
 headFrom [] k h ls = Read h
-headFrom (key ∷ keys) k h ls = andThen (withLine key k h (getD ls 0 [])) (λ (x : Header). headFrom keys (suc k) x (drop 1 ls))
+headFrom (key ∷ keys) k h ls = andThen (withLine key k h (getD ls 0 [])) (λ (x : Header). headFrom keys (k + 1) x (drop 1 ls))
 
 -- the header of a schedule's lines, or its first bad line
 abbrev pub headedOf : List (List ℕ) → Headed

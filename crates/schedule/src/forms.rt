@@ -1,6 +1,6 @@
 // The form of the whole file, line by line; each function is handed the rest of it.
 ghost use mathlib.Core.Path.{_≡_};
-ghost use Prim.Native.Nat.{suc, _+_, _≤_};
+ghost use Prim.Native.Nat.{_+_, _≤_};
 ghost use Rattle.rules.specs.Sizes.{nodesMost};
 ghost use Rattle.text.specs.Lines.{linesOf};
 ghost use Rattle.schedule.specs.Header.{headerSize};
@@ -35,7 +35,7 @@ fn is_tray(line: &[u8]) -> bool
 // The lines after the trays: sends in ascending order, then the end, then nothing.
 fn form_sends(h: Header, s: &[u8]) -> Form
     requires { ⌜ h .n ≤ nodesMost ⌝ }
-    ensures { λ r. ⌜ r ≡ formSends h (suc headerSize + h .n) 0 (linesOf (now (s .entry))) ⌝ }
+    ensures { λ r. ⌜ r ≡ formSends h (headerSize + 1 + h .n) 0 (linesOf (now (s .entry))) ⌝ }
 {
     let mut k = HEADER_SIZE + 1 + h.n;
     let mut last = 0;
@@ -63,7 +63,7 @@ fn form_sends(h: Header, s: &[u8]) -> Form
 // The lines after the header: n tray lines, then sends.
 fn form_trays(h: Header, s: &[u8]) -> Form
     requires { ⌜ h .n ≤ nodesMost ⌝ }
-    ensures { λ r. ⌜ r ≡ formTrays h (suc headerSize) (h .n) (linesOf (now (s .entry))) ⌝ }
+    ensures { λ r. ⌜ r ≡ formTrays h (headerSize + 1) (h .n) (linesOf (now (s .entry))) ⌝ }
 {
     let mut at = 0;
     let mut i = 0;

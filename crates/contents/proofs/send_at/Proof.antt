@@ -1,0 +1,112 @@
+-- The k-th send of all is the one that many further in the lines from `at` on.
+use Prim.Native.Nat.{_-_, _≤_}
+use mathlib.Core.List.{List}
+use mathlib.Core.Path.{_∙_, _≡_, ap, sym}
+use native.Mathlib.Omega.{arith}
+use denote.Ref.{now}
+use borrow.Author.Needs.{needs}
+use lib.ListN.{drop, length}
+use Rattle.text.specs.Lines.{linesOf}
+use Rattle.text.proofs.Cuts.{line-fits, line-some, lines-next, lines-past}
+use Rattle.text.proofs.Scan.{next}
+use Rattle.schedule.specs.Sends.{Send, fits}
+use Rattle.schedule.proofs.Fits.{none-told, sent-told}
+use Rattle.contents.specs.Contents.{sendingAt, sendsIn, sendsOf}
+use Rattle.contents.proofs.Walk.{at-end, at-here, at-next, at-none}
+use Rattle.contents.proofs.send_at.Statement.{statement}
+use Rattle.contents.proofs.send_at.Tie as tie
+
+abbrev Inv-loop : tie.InvT-loop
+Inv-loop s k lines left₀ at₀ left at = (at ≤ length lines) × (sendingAt (sendsOf s) k ≡ sendingAt (sendsIn (linesOf (drop at lines))) left)
+
+abbrev μ-loop : tie.MeasureT-loop
+μ-loop s k lines left₀ at₀ left at = length lines - at
+
+send-lines-requires : tie.Need-send-lines-requires Inv-loop μ-loop
+send-lines-requires c κs = search needs
+
+loop-holds : tie.Need-loop-holds Inv-loop μ-loop
+loop-holds c = (omega arith, ap (λ (xs : List Send). sendingAt xs (c .before .before .args .k)) (c .send-lines .ensures))
+
+sub-first-line : tie.Need-sub-first-line Inv-loop μ-loop
+sub-first-line c = search needs
+
+part-first-line-start : tie.Need-part-first-line-start Inv-loop μ-loop
+part-first-line-start c = search needs
+
+part-first-line-end : tie.Need-part-first-line-end Inv-loop μ-loop
+part-first-line-end c = search needs
+
+first-line-requires : tie.Need-first-line-requires Inv-loop μ-loop
+first-line-requires c κs = search needs
+
+read-send-requires : tie.Need-read-send-requires Inv-loop μ-loop
+read-send-requires c κs = search needs
+
+enum-known-round : tie.Need-enum-known-round Inv-loop μ-loop
+enum-known-round c = search needs
+
+returns : tie.Need-returns Inv-loop μ-loop
+returns c =
+    let lines = now (c .before .before .before .before .before .before .before .before .before .send-lines .result) in
+    let l = c .before .before .before .before .before .before .before .before .loop in
+    let next = lines-next lines _ (l .at) (omega arith) (c .before .before .before .before .before .first-line .ensures) (c .before .before .before .before .before .before .before .loop-test .taken) in
+    let told = sent-told (now (c .before .before .before .before .before .first-line .result)) _ _ _ (sym (c .before .before .round .given .1) ∙ c .before .before .before .before .read-send .ensures) in
+    at-here _ _ _ (l .inv .1) _ _ next _ (told .is) (c .if1 .taken)
+
+sub-left : tie.Need-sub-left Inv-loop μ-loop
+sub-left c = search needs
+
+enum-told : tie.Need-enum-told Inv-loop μ-loop
+enum-told c = search needs
+
+returns-2 : tie.Need-returns-2 Inv-loop μ-loop
+returns-2 c =
+    let lines = now (c .before .before .before .before .before .before .before .send-lines .result) in
+    let l = c .before .before .before .before .before .before .loop in
+    let next = lines-next lines _ (l .at) (omega arith) (c .before .before .before .first-line .ensures) (c .before .before .before .before .before .loop-test .taken) in
+    at-none _ _ _ (l .inv .1) _ _ next (none-told _ (sym (c .enum-told .given .1) ∙ c .before .before .read-send .ensures))
+
+add-at : tie.Need-add-at Inv-loop μ-loop
+add-at c = omega (arith, line-fits (now (c .before .before .before .before .before .before .before .before .before .send-lines .result)) (now (c .before .before .before .before .before .first-line .result)) (c .before .before .before .before .before .before .before .before .loop .at) (omega arith) (c .before .before .before .before .before .first-line .ensures))
+
+loop-less : tie.Need-loop-less Inv-loop μ-loop
+loop-less c = omega (arith, line-some (now (c .before .before .before .before .before .before .before .before .before .send-lines .result)) (now (c .before .before .before .before .before .first-line .result)) (c .before .before .before .before .before .before .before .before .loop .at) (omega arith) (c .before .before .before .before .before .first-line .ensures) (c .before .before .before .before .before .before .before .loop-test .taken))
+
+loop-again : tie.Need-loop-again Inv-loop μ-loop
+loop-again c =
+    let lines = now (c .before .before .before .before .before .before .before .before .before .send-lines .result) in
+    let l = c .before .before .before .before .before .before .before .before .loop in
+    let next = lines-next lines _ (l .at) (omega arith) (c .before .before .before .before .before .first-line .ensures) (c .before .before .before .before .before .before .before .loop-test .taken) in
+    let fits = line-fits lines (now (c .before .before .before .before .before .first-line .result)) (l .at) (omega arith) (c .before .before .before .before .before .first-line .ensures) in
+    let told = sent-told (now (c .before .before .before .before .before .first-line .result)) _ _ _ (sym (c .before .before .round .given .1) ∙ c .before .before .before .before .read-send .ensures) in
+    (fits, at-next _ _ _ (l .inv .1) _ _ next _ (told .is) (c .if1 .left))
+
+returns-3 : tie.Need-returns-3 Inv-loop μ-loop
+returns-3 c =
+    let lines = now (c .before .before .send-lines .result) in
+    let l = c .before .loop in
+    at-end _ _ _ (l .inv .1) (lines-past lines (l .at) (c .loop-test .left))
+
+pub send-at-spec : {M : Type 1} → statement M
+send-at-spec =
+    tie.close
+    (tie.spec
+    Inv-loop
+    μ-loop
+    send-lines-requires
+    loop-holds
+    sub-first-line
+    part-first-line-start
+    part-first-line-end
+    first-line-requires
+    read-send-requires
+    enum-known-round
+    returns
+    sub-left
+    enum-told
+    returns-2
+    add-at
+    loop-less
+    loop-again
+    returns-3)

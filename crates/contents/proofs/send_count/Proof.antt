@@ -1,0 +1,106 @@
+-- All sends are those counted and those of the lines from `at` on.
+use Prim.Native.Nat.{_+_, _-_, _≤_}
+use mathlib.Core.Option.{some}
+use mathlib.Core.Path.{_∙_, _≡_, ap, sym}
+use native.Mathlib.Nat.{zero-add}
+use native.Mathlib.Omega.{arith}
+use denote.Ref.{now}
+use borrow.Author.Needs.{needs}
+use lib.ListN.{drop, length}
+use Rattle.laws.specs.Masks.{count}
+use Rattle.text.specs.Lines.{linesOf}
+use Rattle.text.proofs.Cuts.{line-fits, line-some, lines-next, lines-past}
+use Rattle.text.proofs.Scan.{next}
+use Rattle.schedule.specs.Sends.{fits}
+use Rattle.schedule.proofs.Fits.{none-told, sent-told}
+use Rattle.contents.specs.Contents.{sendsIn, sendsOf}
+use Rattle.contents.proofs.Walk.{counted-end, counted-none, counted-some}
+use Rattle.contents.proofs.send_count.Statement.{statement}
+use Rattle.contents.proofs.send_count.Tie as tie
+
+abbrev Inv-loop : tie.InvT-loop
+Inv-loop s lines count₀ at₀ count at = (at ≤ length lines) × (count ≤ at) × (length (sendsOf s) ≡ count + length (sendsIn (linesOf (drop at lines))))
+
+abbrev μ-loop : tie.MeasureT-loop
+μ-loop s lines count₀ at₀ count at = length lines - at
+
+send-lines-requires : tie.Need-send-lines-requires Inv-loop μ-loop
+send-lines-requires c κs = search needs
+
+loop-holds : tie.Need-loop-holds Inv-loop μ-loop
+loop-holds c = (omega arith, omega arith, ap length (c .send-lines .ensures) ∙ sym (zero-add _))
+
+sub-first-line : tie.Need-sub-first-line Inv-loop μ-loop
+sub-first-line c = search needs
+
+part-first-line-start : tie.Need-part-first-line-start Inv-loop μ-loop
+part-first-line-start c = search needs
+
+part-first-line-end : tie.Need-part-first-line-end Inv-loop μ-loop
+part-first-line-end c = search needs
+
+first-line-requires : tie.Need-first-line-requires Inv-loop μ-loop
+first-line-requires c κs = search needs
+
+read-send-requires : tie.Need-read-send-requires Inv-loop μ-loop
+read-send-requires c κs = search needs
+
+enum-told : tie.Need-enum-told Inv-loop μ-loop
+enum-told c = search needs
+
+add-count : tie.Need-add-count Inv-loop μ-loop
+add-count c = search needs
+
+enum-told-2 : tie.Need-enum-told-2 Inv-loop μ-loop
+enum-told-2 c = search needs
+
+returns : tie.Need-returns Inv-loop μ-loop
+returns c =
+    let lines = now (c .before .before .before .before .before .before .before .send-lines .result) in
+    let l = c .before .before .before .before .before .before .loop in
+    let next = lines-next lines _ (l .at) (omega arith) (c .before .before .before .first-line .ensures) (c .before .before .before .before .before .loop-test .taken) in
+    counted-none _ _ _ (l .inv .2) _ _ next (none-told _ (sym (c .enum-told2 .given .1) ∙ c .before .before .read-send .ensures))
+
+add-at : tie.Need-add-at Inv-loop μ-loop
+add-at c = omega (arith, line-fits (now (c .before .before .before .before .before .before .before .send-lines .result)) (now (c .before .before .before .first-line .result)) (c .before .before .before .before .before .before .loop .at) (omega arith) (c .before .before .before .first-line .ensures))
+
+loop-less : tie.Need-loop-less Inv-loop μ-loop
+loop-less c = omega (arith, line-some (now (c .before .before .before .before .before .before .before .send-lines .result)) (now (c .before .before .before .first-line .result)) (c .before .before .before .before .before .before .loop .at) (omega arith) (c .before .before .before .first-line .ensures) (c .before .before .before .before .before .loop-test .taken))
+
+loop-again : tie.Need-loop-again Inv-loop μ-loop
+loop-again c =
+    let lines = now (c .before .before .before .before .before .before .before .send-lines .result) in
+    let l = c .before .before .before .before .before .before .loop in
+    let next = lines-next lines _ (l .at) (omega arith) (c .before .before .before .first-line .ensures) (c .before .before .before .before .before .loop-test .taken) in
+    let fits = line-fits lines (now (c .before .before .before .first-line .result)) (l .at) (omega arith) (c .before .before .before .first-line .ensures) in
+    let some = line-some lines (now (c .before .before .before .first-line .result)) (l .at) (omega arith) (c .before .before .before .first-line .ensures) (c .before .before .before .before .before .loop-test .taken) in
+    let told = sent-told (now (c .before .before .before .first-line .result)) _ _ _ (sym (c .enum-told .given .1) ∙ c .before .before .read-send .ensures) in
+    (fits, omega (arith, some), counted-some _ _ _ (l .inv .2) _ _ next _ (told .is))
+
+returns-2 : tie.Need-returns-2 Inv-loop μ-loop
+returns-2 c =
+    let lines = now (c .before .before .send-lines .result) in
+    let l = c .before .loop in
+    counted-end _ _ _ (l .inv .2) (lines-past lines (l .at) (c .loop-test .left))
+
+pub send-count-spec : {M : Type 1} → statement M
+send-count-spec =
+    tie.close
+    (tie.spec
+    Inv-loop
+    μ-loop
+    send-lines-requires
+    loop-holds
+    sub-first-line
+    part-first-line-start
+    part-first-line-end
+    first-line-requires
+    read-send-requires
+    enum-told
+    add-count
+    enum-told-2
+    returns
+    add-at
+    loop-less
+    loop-again
+    returns-2)
