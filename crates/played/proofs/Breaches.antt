@@ -1,8 +1,8 @@
 -- The first send that breaks the rule, send by send: the answer for the whole is the answer for those that are left.
 use Prim.Native.Nat.{ℕ, zero, suc, _+_, _≤_, _<_}
-use mathlib.Core.Path.{_≡_, refl, sym, ap, ap₂, subst, _∙_}
+use mathlib.Core.Path.{_≡_, refl, sym, ap, ap₂, _∙_}
 use mathlib.Core.Bool.{Bool, true, false, _&&_, cond}
-use mathlib.Core.List.{List, [], _∷_}
+use mathlib.Core.List.{List}
 use native.Mathlib.Numerals.{add-one}
 use native.Mathlib.Omega.{arith}
 use borrow.Author.Tests.{eq-eqb, ne-eqb}
@@ -13,7 +13,6 @@ use lib.Seq.{drop-cons}
 use Rattle.agreement.specs.Hall.{Hall}
 use Rattle.agreement.specs.Rule.{breaksRule}
 use Rattle.schedule.specs.Header.{headerSize}
-use Rattle.schedule.specs.Sends.{Send}
 use Rattle.schedule.specs.Forms.{formOf}
 use Rattle.schedule.specs.declared.Form.{Form}
 use Rattle.schedule.specs.declared.Form.the-variants.{Good, Bad}
@@ -26,9 +25,8 @@ use Rattle.played.specs.Standing.{noNodes, standing}
 use Rattle.played.specs.Playing.{hallOf, breachFrom, breach, goodAs, playedTo, playedOf}
 use Rattle.played.specs.declared.Played.{Played}
 use Rattle.played.specs.declared.Standing.{Standing}
-use Rattle.played.proofs.Forms.{sendAt}
-use Rattle.played.proofs.Sends.{sent-numbers}
-use Rattle.played.proofs.Standings.{header-nodes, send-fits, send-last, send-message}
+use Rattle.contents.proofs.Good.{good-header}
+use Rattle.played.proofs.Sends.{sendAt, sent-numbers, send-fits, send-message}
 use Rattle.played.proofs.Ruled.{rule-by-states}
 
 module _ (s : List ℕ) (n f : ℕ) where
@@ -40,7 +38,7 @@ module _ (s : List ℕ) (n f : ℕ) where
   left k = breachFrom hall (headerSize + 1 + n + k) (drop k (sendsOf s))
 
   pub at-first : formOf s ≡ Good n f → breach s n f ≡ left 0
-  at-first form = ap (λ (m : ℕ). breachFrom hall (headerSize + 1 + m + 0) (sendsOf s)) (header-nodes s n f form)
+  at-first form = ap (λ (m : ℕ). breachFrom hall (headerSize + 1 + m + 0) (sendsOf s)) (good-header s n f form .0)
 
   module _ (k : ℕ) (h : k < length (sendsOf s)) (t : Bool) (e : t ≡ breaksRule hall (sendAt (sendsOf s) k .round) (sendAt (sendsOf s) k .message)) where
     next : left k ≡ cond t (headerSize + 1 + n + k) (breachFrom hall (headerSize + 1 + n + k + 1) (drop (suc k) (sendsOf s)))
@@ -71,7 +69,7 @@ module _ (s : List ℕ) (n f : ℕ) where
       let m : messageFor s r i j ≡ x .message =
       ap (λ (a : ℕ). messageFor s a i j) (q .0) ∙ ap₂ (λ (a b : ℕ). messageFor s (x .round) a b) (q .1) (q .2) ∙ send-message s n f form k l in
       told ∙ ap (breaks n faulty (here .nodes)) m
-      ∙ rule-by-states s n f form faulty mask here (x .round) (stands ∙ ap (standing hall) (q .0)) (fit .first) (send-last s n f form k l) (x .message)
+      ∙ rule-by-states s n f form faulty mask here (x .round) (stands ∙ ap (standing hall) (q .0)) (fit .round-least) (fit .round-most) (x .message)
 
   -- ---- what is answered
 

@@ -2,7 +2,6 @@ pub mod Copies
 pub mod Filled
 pub mod Messages
 pub mod Stands
-pub mod Forms
 pub mod Sends
 pub mod Standings
 pub mod Ruled

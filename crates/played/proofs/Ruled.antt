@@ -1,16 +1,16 @@
 -- The rule on shown votes by the nodes' states is the rule by what they have sent: a correct node's state before a round has its own batch and all that it
 -- has kept, and that is what it has sent by then.
 use Prim.Native.Nat.{ℕ, zero, suc, _+_, _-_, _≤_, _<_}
-use mathlib.Core.Path.{_≡_, refl, sym, ap, ap₂, subst, _∙_}
-use mathlib.Core.Logic.{_≢_, inl, inr}
+use mathlib.Core.Path.{_≡_, refl, sym, ap, ap₂, _∙_}
+use mathlib.Core.Logic.{inl, inr}
 use mathlib.Core.Bool.{Bool, true, false, not, _&&_, _||_, cond}
 use mathlib.Core.List.{List, [], _∷_, _++_}
 use mathlib.Core.Option.{Option, none, some}
 use native.Mathlib.Nat.{le-refl, le-trans, le-suc}
 use native.Mathlib.Omega.{arith}
 use borrow.Author.Tests.{lt-ltb, eqb-true, eqb-false}
-use lib.Dec.{eqb, leb, ltb}
-use lib.ListN.{length, getD, replicate}
+use lib.Dec.{eqb, ltb}
+use lib.ListN.{length, replicate}
 use Rattle.laws.specs.Masks.{bit, every, maskOf}
 use Rattle.laws.specs.Members.{In, same, among, those}
 use Rattle.laws.proofs.Members.{same-self}
@@ -24,23 +24,22 @@ use Rattle.rules.proofs.Gathered.{each-at}
 use Rattle.wire.specs.Message.{votesOf}
 use Rattle.wire.proofs.Sayable.{votes-sayable}
 use Rattle.wire.proofs.Writings.{said}
-use Rattle.tray.specs.Trays.{trayOf, entriesOf}
+use Rattle.tray.specs.Trays.{entriesOf}
 use Rattle.node.specs.Batches.{batchOf, keptAs}
-use Rattle.node.specs.State.{keptAt, keptFor, nodeOf}
-use Rattle.node.specs.declared.Batch.{Batch as BatchHeld}
+use Rattle.node.specs.State.{keptFor, nodeOf}
 use Rattle.node.specs.declared.Node.{Node}
 use Rattle.node.proofs.Sound.{of-kept}
 use Rattle.round.specs.Found.{votesIn}
 use Rattle.agreement.specs.Hall.{Hall, nodeAfter}
-use Rattle.agreement.specs.Granted.{Round, Correct}
-use Rattle.agreement.specs.Rule.{hasSent, forgedFor, forged, breaksRule}
-use Rattle.agreement.proofs.Follows.{overVotes, ruled, follows, Unhindered}
+use Rattle.agreement.specs.Granted.{Round}
+use Rattle.agreement.specs.Rule.{hasSent, forgedFor, breaksRule}
+use Rattle.agreement.proofs.Follows.{overVotes, follows}
 use Rattle.agreement.proofs.SentBy.{sent-by-state}
 use Rattle.schedule.specs.Forms.{formOf}
 use Rattle.schedule.specs.declared.Form.the-variants.{Good}
 use Rattle.contents.specs.Contents.{isFaulty}
-use Rattle.shown.specs.Shown.{sameBatch, keptHolds, isOwn, hasSent as sentHeld, nodeAt, forgedFor as forgedHeld, forged as forgedShown, forgedAmong, breaks}
-use Rattle.played.specs.Standing.{stoodOf, nobody, correct, nodeBefore, stoodAt, standing}
+use Rattle.shown.specs.Shown.{sameBatch, keptHolds, hasSent as sentHeld, nodeAt, forgedFor as forgedHeld, forged as forgedShown, forgedAmong, breaks}
+use Rattle.played.specs.Standing.{correct, nodeBefore, standing}
 use Rattle.played.specs.Playing.{hallOf}
 use Rattle.played.specs.declared.Standing.{Standing}
 use Rattle.played.proofs.Standings.{mask-tells, node-there, goes-on, nodes-sized, nodes-most}

@@ -1,20 +1,20 @@
 -- Where a run stands: what the calls of a round make of it is where it stands before the next.
-use Prim.Native.Nat.{ℕ, zero, suc, _+_, _*_, _^_, _≤_, _<_}
+use Prim.Native.Nat.{ℕ, zero, suc, _+_, _*_, _≤_, _<_}
 use mathlib.Core.Path.{_≡_, refl, sym, ap, ap₂, subst, _∙_}
 use mathlib.Core.Logic.{_≢_, ⊎-elim}
 use mathlib.Core.Bool.{Bool, true, false, not, _&&_, cond}
-use mathlib.Core.List.{List, [], _∷_, _++_}
+use mathlib.Core.List.{List, [], _∷_}
 use native.Mathlib.Numerals.{add-one}
 use native.Mathlib.Omega.{arith}
-use borrow.Author.Tests.{lt-ltb, le-ltb, ltb-true, not-true, eq-eqb, ne-eqb, eqb-true}
+use borrow.Author.Tests.{lt-ltb, le-ltb, ltb-true, eq-eqb, ne-eqb}
 use lib.Dec.{eqb, ltb}
-use lib.ListN.{length, getD, take, drop, replicate}
+use lib.ListN.{length, getD, drop, replicate}
 use lib.Seq.{take-at}
 use Rattle.laws.specs.Masks.{bit, asBit, maskOf}
-use Rattle.laws.proofs.Tests.{clash, both}
-use Rattle.laws.proofs.Bits.{mask-bit, mask-below}
+use Rattle.laws.proofs.Tests.{both}
+use Rattle.laws.proofs.Bits.{mask-bit}
 use Rattle.laws.proofs.Order.{lt-or-ge}
-use Rattle.rules.specs.Sizes.{nodesMost, sized, sizes}
+use Rattle.rules.specs.Sizes.{nodesMost, sized}
 use Rattle.rules.specs.Step.{gather}
 use Rattle.rules.proofs.Gathered.{each-length, each-at}
 use Rattle.rules.proofs.Inbox.{gather-same}
@@ -23,7 +23,6 @@ use Rattle.wire.specs.Sizes.{messageMost}
 use Rattle.wire.specs.Inbox.{inboxBytes}
 use Rattle.tray.specs.Trays.{trayOf}
 use Rattle.tray.proofs.Sound.{of-entries, of-is-sound}
-use Rattle.node.specs.declared.Node.{Node}
 use Rattle.step.specs.Course.{after, outbox}
 use Rattle.step.proofs.Courses.{outbox-short}
 use Rattle.agreement.specs.Hall.{Hall, nodeAfter, sends}
@@ -31,13 +30,11 @@ use Rattle.agreement.specs.Granted.{Correct}
 use Rattle.agreement.proofs.Follows.{Unhindered}
 use Rattle.agreement.proofs.Carried.{Given, inbox-is, unhindered}
 use Rattle.entries.specs.Bytes.{AreEntries}
-use Rattle.schedule.specs.Header.{headerSize, maskIn}
 use Rattle.schedule.specs.Forms.{formOf}
 use Rattle.schedule.specs.declared.Form.the-variants.{Good}
-use Rattle.schedule.proofs.Heads.{Whole, header-told}
-use Rattle.text.specs.Lines.{linesOf}
-use Rattle.contents.specs.Contents.{headerAs, headerOf, isFaulty, entriesOfTray, messageFor, sendsOf}
-use Rattle.schedule.specs.declared.Headed.{Headed}
+use Rattle.contents.specs.Contents.{isFaulty, entriesOfTray, messageFor}
+use Rattle.contents.proofs.Good.{good-sizes, tray-batch, tray-entries}
+use Rattle.contents.proofs.Found.{message-bytes, message-size}
 use Rattle.shown.specs.Shown.{nodeAt}
 use Rattle.played.specs.Inboxes.{outboxOf, sentIn, outboxAt, messageTo, inboxTo, Short}
 use Rattle.played.specs.Standing.{stoodOf, nobody, unopened, steppedTo, correct, nodeBefore, stoodAt, standing}
@@ -45,8 +42,6 @@ use Rattle.played.specs.Playing.{hallOf}
 use Rattle.played.specs.declared.Outbox.{Outbox}
 use Rattle.played.specs.declared.Standing.{Standing}
 use Rattle.played.specs.declared.Stood.{Stood}
-use Rattle.played.proofs.Forms.{sendAt, Formed, formed, tray-told}
-use Rattle.played.proofs.Sends.{Fitting, fitting-at, rounds-rise, sends-few, its-message, given-short, given-bytes}
 
 -- a node's bit in a mask
 pub mask-tells : (t : ℕ → Bool) (j : ℕ) → j < nodesMost → eqb (bit (maskOf t nodesMost) j) 1 ≡ t j
@@ -100,59 +95,24 @@ module _ (s : List ℕ) (n f : ℕ) (form : formOf s ≡ Good n f) where
   abbrev hall : Hall
   hall = hallOf s n f
 
-  abbrev told : Formed s n f
-  told = formed s n f form
-
-  head : Whole (linesOf s) (told .header)
-  head = header-told (linesOf s) (told .header) (told .read)
-
   pub nodes-sized : sized n ≡ true
-  nodes-sized = subst (λ (m : ℕ). sized m ≡ true) (told .is-n) (head .nodes)
+  nodes-sized = good-sizes s n f form .0
 
   pub nodes-most : n ≤ nodesMost
   nodes-most = sized-most n nodes-sized
 
   pub nodes-above : 2 * f < n
-  nodes-above = omega (arith, head .half, told .is-n, told .is-f)
-
-  pub low : told .header .faulty < 2 ^ nodesMost
-  low = subst (λ (m : ℕ). m < 2 ^ nodesMost) (sym (head .mask)) (mask-below _ nodesMost)
-
-  pub few : told .header .n ≤ nodesMost
-  few = sized-most _ (head .nodes)
-
-  pub all-short : (r j i : ℕ) → length (messageFor s r j i) ≤ messageMost
-  all-short = given-short (told .header) low few (sendsOf s) (told .ranked)
-
-  pub send-fits : (k : ℕ) → k < length (sendsOf s) → Fitting (told .header) low few (sendAt (sendsOf s) k)
-  send-fits = fitting-at (told .header) low few (sendsOf s) (told .ranked)
-
-  pub send-last : (k : ℕ) → k < length (sendsOf s) → sendAt (sendsOf s) k .round ≤ f + 1
-  send-last k l = omega (arith, send-fits k l .last, told .is-f)
-
-  pub send-rounds : (k : ℕ) → k + 1 < length (sendsOf s) → sendAt (sendsOf s) k .round ≤ sendAt (sendsOf s) (k + 1) .round
-  send-rounds = rounds-rise (told .header) low few (sendsOf s) (told .ranked)
-
-  pub send-message : (k : ℕ) → k < length (sendsOf s)
-      → messageFor s (sendAt (sendsOf s) k .round) (sendAt (sendsOf s) k .from) (sendAt (sendsOf s) k .to) ≡ sendAt (sendsOf s) k .message
-  send-message = its-message (told .header) low few (sendsOf s) (told .ranked)
-
-  pub send-few : (k : ℕ) → k < length (sendsOf s) → k < (f + 2) * (nodesMost * nodesMost)
-  send-few k l = omega (arith, sends-few (told .header) low few (sendsOf s) (told .ranked) k l, told .is-f)
-
-  pub header-nodes : headerOf s .n ≡ n
-  unfolding headerAs
-  header-nodes = ap (λ (d : Headed). headerAs d .n) (told .read) ∙ told .is-n
+  nodes-above = good-sizes s n f form .1
 
   -- what the run is given
-  given : Given n f (isFaulty s) (λ i. trayOf (entriesOfTray s i)) (λ r j i. messageFor s r j i) []
+  pub given : Given n f (isFaulty s) (λ i. trayOf (entriesOfTray s i)) (λ r j i. messageFor s r j i) []
   given = record {
     nodes = nodes-sized;
     above = nodes-above;
-    trays = λ i ci. of-is-sound (entriesOfTray s i) (tray-told _ (told .trays i (ci .node)) .batch);
-    entries = λ i ci. subst AreEntries (sym (of-entries (entriesOfTray s i))) (tray-told _ (told .trays i (ci .node)) .entries);
-    short = λ i j r ci fj b. omega (arith, all-short r j i);
-    bytes = λ i j r ci fj b. given-bytes (told .header) low few (sendsOf s) (told .ranked) r j i;
+    trays = λ i ci. of-is-sound (entriesOfTray s i) (tray-batch s i);
+    entries = λ i ci. subst AreEntries (sym (of-entries (entriesOfTray s i))) (tray-entries s i);
+    short = λ i j r ci fj b. omega (arith, message-size s n f r j i form);
+    bytes = λ i j r ci fj b. message-bytes s r j i;
   }
 
   pub goes-on : (i : ℕ) → Correct hall i → Unhindered hall i
@@ -173,7 +133,7 @@ module _ (s : List ℕ) (n f : ℕ) (form : formOf s ≡ Good n f) where
     -- ---- every outbox is short
 
     pub short-here : Short s (here .outboxes)
-    short-here = record { given = all-short; sent = λ j. ⊎-elim (λ l. within j l) (λ l. beyond j l) (lt-or-ge j nodesMost) }
+    short-here = record { given = λ r j i. message-size s n f r j i form; sent = λ j. ⊎-elim (λ l. within j l) (λ l. beyond j l) (lt-or-ge j nodesMost) }
       where
         size : (b : Bool) (j : ℕ) → correct hall j ≡ b → stoodAt hall (here .next) j .outbox .size ≤ messageMost
         size true j e = rw e (sends-short j (here .next) (ltb-true j n (both (ltb j n) (not (isFaulty s j)) e .0)))

@@ -1,6 +1,6 @@
 -- What the calls leave of a node and its outbox is what its course says: the outbox is lent as zeros, with room for a whole message.
 use Prim.Native.Nat.{ℕ, zero, suc}
-use mathlib.Core.Path.{_≡_, refl, sym, ap, ap₂, _∙_}
+use mathlib.Core.Path.{_≡_, refl, ap₂, _∙_}
 use mathlib.Core.List.{List, []}
 use lib.ListN.{length, replicate}
 use Rattle.laws.specs.Parts.{onto}
@@ -17,13 +17,11 @@ use Rattle.node.specs.declared.Opened.{Opened}
 use Rattle.step.specs.Step.{Step, passedBy, stepNumber}
 use Rattle.step.specs.Course.{made, after, outbox}
 use Rattle.step.specs.declared.Stepped.{Stepped}
-use Rattle.agreement.specs.Hall.{Hall, nodeAfter, sends}
+use Rattle.agreement.specs.Hall.{nodeAfter, sends}
 use Rattle.contents.specs.Contents.{entriesOfTray}
 use Rattle.tray.specs.Trays.{trayOf}
-use Rattle.played.specs.Inboxes.{outboxOf}
 use Rattle.played.specs.Standing.{stoodOf, nobody, steppedTo}
 use Rattle.played.specs.Playing.{hallOf}
-use Rattle.played.specs.declared.Outbox.{Outbox}
 use Rattle.played.specs.declared.Stood.{Stood}
 
 abbrev zeros : List ℕ

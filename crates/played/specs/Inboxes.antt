@@ -1,7 +1,7 @@
 -- What is handed to a node in a round: "Each outbox goes whole to every other node", and a faulty node's send. "The own slot of an inbox is silence."
 use Prim.Native.Nat.{ℕ, _≤_}
 use mathlib.Core.Bool.{cond}
-use mathlib.Core.List.{List, [], _∷_, _++_}
+use mathlib.Core.List.{List, [], _∷_}
 use lib.Dec.{eqb}
 use lib.ListN.{length, getD, take, replicate}
 use Rattle.laws.specs.Masks.{bit}

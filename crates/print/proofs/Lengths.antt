@@ -29,8 +29,13 @@ pub entry-length : (x : ℕ) → length (entryText x) ≡ length (decimalOf (x /
 entry-length x =
     let m : List ℕ = decimalOf (x / 2 ^ 48) in
     let i : List ℕ = decimalOf (x / 2 ^ 32 % 2 ^ 16) in
-    omega (arith, length-append (decimalOf (x / 2 ^ 48) ++ (dot ∷ [])) (lowText x), length-append (decimalOf (x / 2 ^ 48)) (dot ∷ []),
-    length-append (decimalOf (x / 2 ^ 32 % 2 ^ 16) ++ (dot ∷ [])) (decimalOf (x % 2 ^ 32)), length-append (decimalOf (x / 2 ^ 32 % 2 ^ 16)) (dot ∷ []))
+    omega (
+      arith,
+      length-append (decimalOf (x / 2 ^ 48) ++ (dot ∷ [])) (lowText x),
+      length-append (decimalOf (x / 2 ^ 48)) (dot ∷ []),
+      length-append (decimalOf (x / 2 ^ 32 % 2 ^ 16) ++ (dot ∷ [])) (decimalOf (x % 2 ^ 32)),
+      length-append (decimalOf (x / 2 ^ 32 % 2 ^ 16)) (dot ∷ []),
+    )
 
 -- an entry has at most 22 bytes: 65535.65535.4294967295
 pub entry-most : (x : ℕ) → x < 2 ^ 64 → length (entryText x) ≤ 22

@@ -149,8 +149,12 @@ more-whole kind xs i h = ap (moreText kind) (take-all i xs h)
 -- the first items are no longer than all
 pub more-part : (kind : Items) (xs : List ℕ) (i : ℕ) → length (moreText kind (take i xs)) ≤ length (moreText kind xs)
 more-part kind xs i =
-    omega (arith, ap (λ (t : List ℕ). length (moreText kind t)) (take-append-drop i xs), ap length (more-append kind (take i xs) (drop i xs)),
-    length-append (moreText kind (take i xs)) (moreText kind (drop i xs)))
+    omega (
+      arith,
+      ap (λ (t : List ℕ). length (moreText kind t)) (take-append-drop i xs),
+      ap length (more-append kind (take i xs) (drop i xs)),
+      length-append (moreText kind (take i xs)) (moreText kind (drop i xs)),
+    )
 
 -- where there is room for all, there is room for one item more
 pub more-room : (kind : Items) (xs : List ℕ) (i n : ℕ) → length (moreText kind xs) ≤ n → i < length xs → length (moreText kind (take i xs) ++ (comma ∷ itemText kind (getD xs i 0))) ≤ n

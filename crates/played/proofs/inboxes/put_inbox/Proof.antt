@@ -1,14 +1,13 @@
 -- Before turn j the first j slots are put.
 use Prim.Native.Nat.{ℕ, _+_, _-_, _≤_}
-use mathlib.Core.Path.{_≡_, refl, sym, ap, _∙_}
+use mathlib.Core.Path.{_≡_, refl, ap}
 use mathlib.Core.List.{List, _++_}
 use native.Mathlib.Omega.{arith}
 use denote.Ref.{now}
 use lib.ListN.{length, take, drop}
-use Rattle.wire.specs.Sizes.{lengthSize, messageMost}
 use Rattle.played.specs.Inboxes.{messageTo, outboxAt}
 use Rattle.played.proofs.Messages.{short}
-use Rattle.played.proofs.Copies.{Slotted, none-slotted, one-slotted, all-slotted, slot-length}
+use Rattle.played.proofs.Copies.{Slotted, none-slotted, one-slotted, all-slotted}
 use mathlib.Core.Path.{subst}
 use lib.ListN.{length-drop}
 use Rattle.laws.specs.Parts.{onto}

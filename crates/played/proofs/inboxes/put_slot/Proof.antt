@@ -1,10 +1,7 @@
 -- The message goes after the two bytes of its length.
-use Prim.Native.Nat.{_≤_}
-use mathlib.Core.Path.{sym, ap, _∙_}
 use native.Mathlib.Omega.{arith}
 use denote.Ref.{now}
 use lib.ListN.{length, length-set}
-use Rattle.wire.specs.Sizes.{messageMost}
 use Rattle.played.specs.Inboxes.{messageTo}
 use Rattle.played.proofs.Messages.{short}
 use Rattle.played.proofs.Copies.{slot-length, one-slot}

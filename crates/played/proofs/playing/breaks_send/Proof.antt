@@ -4,8 +4,7 @@ use native.Mathlib.Omega.{arith}
 use denote.Ref.{now}
 use lib.ListN.{length}
 use lib.Seq.{length-take-le}
-use Rattle.text.proofs.Written.{put-written}
-use lib.ListN.{take, length-replicate}
+use lib.ListN.{take}
 use Prim.Native.Nat.{_≤_}
 use Rattle.contents.specs.Contents.{messageFor}
 use Rattle.shown.specs.Shown.{breaks}

@@ -1,7 +1,6 @@
 -- Sixteen times the same.
 use mathlib.Core.Path.{ap}
 use lib.ListN.{replicate}
-use Rattle.node.specs.declared.Node.{Node}
 use Rattle.played.specs.declared.Played.{Played}
 use Rattle.played.specs.declared.Stood.{Stood}
 use borrow.Author.Needs.{needs}

@@ -1,5 +1,5 @@
 -- The form is checked; it is played where it is good with these sizes.
-use mathlib.Core.Path.{_≡_, sym, ap₂, _∙_}
+use mathlib.Core.Path.{sym, ap₂, _∙_}
 use denote.Ref.{now}
 use Rattle.schedule.specs.declared.Form.the-variants.{Good}
 use Rattle.played.proofs.Breaches.{is-good, other-nodes, other-faults, bad-form}

@@ -10,9 +10,9 @@ use Rattle.contents.specs.Contents.{sendsOf, sendingAt}
 use Rattle.played.specs.Standing.{standing}
 use Rattle.played.specs.Playing.{hallOf, breach}
 use Rattle.played.specs.declared.Standing.{Standing}
-use Rattle.played.proofs.Forms.{sendAt}
-use Rattle.played.proofs.Sends.{sent-numbers, never-none}
-use Rattle.played.proofs.Standings.{starts, stands-there, nodes-above, nodes-most, all-short, send-last, send-rounds, send-few}
+use Rattle.contents.proofs.Found.{message-size}
+use Rattle.played.proofs.Sends.{sendAt, sent-numbers, never-none, send-fits, send-rounds, send-few}
+use Rattle.played.proofs.Standings.{starts, stands-there, nodes-above, nodes-most}
 use Rattle.played.proofs.Breaches.{left, at-first, breaks-here, breaks-later, none-left, rule-told, is-breach, is-played}
 use borrow.Author.Needs.{needs}
 use Rattle.played.proofs.playing.play_good.Statement.{statement}
@@ -79,13 +79,13 @@ advance-to-requires c κs =
       c .before .before .before .before .before .before .before .before .faulty-mask .ensures,
       l .inv .2,
       omega (arith, q .0, l .inv .4 (c .before .before .before .before .loop-test .taken)),
-      omega (arith, q .0, send-last (now (a .s)) (a .n) (a .f) (c .before .before .before .before .before .before .before .before .before .before .pre) (l .k) (inside c)),
+      omega (arith, q .0, send-fits (now (a .s)) (a .n) (a .f) (c .before .before .before .before .before .before .before .before .before .before .pre) (l .k) (inside c) .round-most),
     )
 
 breaks-send-requires : tie.Need-breaks-send-requires Inv-loop μ-loop
 breaks-send-requires c κs =
     let a = c .before .before .before .before .before .before .before .before .before .before .before .before .args in
-    all-short (now (a .s)) (a .n) (a .f) (c .before .before .before .before .before .before .before .before .before .before .before .before .pre) _ _ _
+    message-size (now (a .s)) (a .n) (a .f) _ _ _ (c .before .before .before .before .before .before .before .before .before .before .before .before .pre)
 
 add-not-played : tie.Need-add-not-played Inv-loop μ-loop
 add-not-played c = search needs
@@ -138,7 +138,7 @@ loop-again c =
       omega arith,
       l .inv .1 ∙ breaks-later (now (a .s)) (a .n) (a .f) (l .k) (inside (c .before .before .before .before)) _ (rule (c .before)) (c .if1 .left),
       stands-there hall _ _ e,
-      omega (arith, z, q .0, send-last (now (a .s)) (a .n) (a .f) (c .before .before .before .before .before .before .before .before .before .before .before .before .before .before .pre) (l .k) (inside (c .before .before .before .before))),
+      omega (arith, z, q .0, send-fits (now (a .s)) (a .n) (a .f) (c .before .before .before .before .before .before .before .before .before .before .before .before .before .before .pre) (l .k) (inside (c .before .before .before .before)) .round-most),
       λ more. omega (arith, z, q .0, send-rounds (now (a .s)) (a .n) (a .f) (c .before .before .before .before .before .before .before .before .before .before .before .before .before .before .pre) (l .k) (omega (arith, more, c .before .before .before .before .before .before .before .before .before .before .before .send-count .ensures))),
     )
 

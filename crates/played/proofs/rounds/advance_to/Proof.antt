@@ -1,5 +1,5 @@
 -- The run stands before its next round, round after round.
-use Prim.Native.Nat.{_+_, _-_, _≤_}
+use Prim.Native.Nat.{_-_, _≤_}
 use mathlib.Core.Path.{_≡_, ap, _∙_}
 use native.Mathlib.Omega.{arith}
 use denote.Ref.{now}
@@ -7,7 +7,6 @@ use Rattle.played.specs.Standing.{standing}
 use Rattle.played.specs.Playing.{hallOf}
 use Rattle.played.specs.declared.Standing.{Standing}
 use Rattle.played.proofs.Standings.{stands-there}
-use borrow.Author.Needs.{needs}
 use Rattle.played.proofs.rounds.advance_to.Statement.{statement}
 use Rattle.played.proofs.rounds.advance_to.Tie as tie
 

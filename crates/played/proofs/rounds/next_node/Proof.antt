@@ -26,7 +26,7 @@ no-node-requires-2 c κs = search needs
 returns-2 : tie.Need-returns-2
 returns-2 c =
     let a = c .before .before .before .before .args in
-    is-faulty (now (a .s)) (a .n) (a .f) (c .before .before .before .before .pre .1) (a .faulty) (c .before .before .before .before .pre .2) (a .here) (c .before .before .before .before .pre .3) (a .i) (c .before .before .before .before .pre .0) _ (omega arith) (c .before .if2 .taken) (c .no-node2 .ensures)
+    is-faulty (now (a .s)) (a .n) (a .f) (c .before .before .before .before .pre .1) (a .faulty) (c .before .before .before .before .pre .2) (a .here) (c .before .before .before .before .pre .3) (a .i) (c .before .before .before .before .pre .0) _ (omega arith) (omega (arith, c .before .if2 .taken)) (c .no-node2 .ensures)
 
 open-node-requires : tie.Need-open-node-requires
 open-node-requires c κs = search needs

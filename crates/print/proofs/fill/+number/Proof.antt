@@ -98,10 +98,11 @@ number-returns-2 t c =
     let a = c .before .before .before .before .before .before .args in
     let k = c .before .before .number in
     let h : 10 ≤ a .v = c .before .before .before .before .if1 .left in
-    let l = step-length (a .v) h in
-    (omega (arith, k .ensures .0, l),
-    onto-byte (decimalOf (a .v / 10)) (now (a .output)) (k .last .0) (k .result) (48 + a .v % 10) (k .ensures .0) (k .ensures .1) (omega (arith, l, c .before .before .before .before .before .before .pre .1))
-    ∙ ap (λ (w : List ℕ). onto w (now (a .output))) (sym (decimal-step (a .v) h)))
+    let l = step-length (a .v) h in (
+      omega (arith, k .ensures .0, l),
+      onto-byte (decimalOf (a .v / 10)) (now (a .output)) (k .last .0) (k .result) (48 + a .v % 10) (k .ensures .0) (k .ensures .1) (omega (arith, l, c .before .before .before .before .before .before .pre .1))
+          ∙ ap (λ (w : List ℕ). onto w (now (a .output))) (sym (decimal-step (a .v) h)),
+    )
 
 pub +number-spec : {M : Type 1} → statement M
 +number-spec =

@@ -73,10 +73,13 @@ loop-again c =
     let v : List ℕ = moreText (a .kind) (take (l .i) (now (a .xs))) in
     let w : List ℕ = comma ∷ itemText (a .kind) (getD (now (a .xs)) (l .i) 0) in
     let h = more-room (a .kind) (now (a .xs)) (l .i) _ (l .inv .1) (omega arith) in
-    let e = sym (more-turn (a .kind) (now (a .xs)) (l .i) (omega arith)) in
-    (omega arith, l .inv .1, both-length v w (now (a .output)) (l .output) (l .at) h (l .inv .2) (l .inv .3) _ (c .before .before .more .ensures .0) ∙ ap length e,
-    both-kept v w (now (a .output)) (l .output) (l .at) h (l .inv .2) (l .inv .3) (l .inv .4) _ (c .before .before .more .ensures .1),
-    both-onto v w (now (a .output)) (l .output) (l .at) h (l .inv .2) (l .inv .3) (l .inv .4) _ (c .before .before .more .ensures .1) ∙ ap (λ (t : List ℕ). onto t (now (a .output))) e)
+    let e = sym (more-turn (a .kind) (now (a .xs)) (l .i) (omega arith)) in (
+      omega arith,
+      l .inv .1,
+      both-length v w (now (a .output)) (l .output) (l .at) h (l .inv .2) (l .inv .3) _ (c .before .before .more .ensures .0) ∙ ap length e,
+      both-kept v w (now (a .output)) (l .output) (l .at) h (l .inv .2) (l .inv .3) (l .inv .4) _ (c .before .before .more .ensures .1),
+      both-onto v w (now (a .output)) (l .output) (l .at) h (l .inv .2) (l .inv .3) (l .inv .4) _ (c .before .before .more .ensures .1) ∙ ap (λ (t : List ℕ). onto t (now (a .output))) e,
+    )
 
 same-length : tie.Need-same-length Inv-loop μ-loop
 same-length c = c .before .loop .inv .3

@@ -81,9 +81,10 @@ returns-2 c =
     let a = c .before .before .before .before .before .before .before .before .before .before .before .before .before .args in
     let k = c .before .before .before .before .before .before .before .item in
     let h = list-room (a .kind) (now (a .xs)) _ (c .before .before .before .before .before .before .before .before .before .before .if1 .left) (c .before .before .before .before .before .before .before .before .before .before .before .before .before .pre) in
-    let e = sym (list-some (a .kind) (now (a .xs)) (c .before .before .before .before .before .before .before .before .before .before .if1 .left)) in
-    (both-length (front (a .kind) (now (a .xs))) (back (a .kind) (now (a .xs))) (now (a .output)) (k .last .0) (k .result) h (k .ensures .0) (k .kept .0) _ (c .before .before .all-more .ensures .0) ∙ ap length e,
-    both-onto (front (a .kind) (now (a .xs))) (back (a .kind) (now (a .xs))) (now (a .output)) (k .last .0) (k .result) h (k .ensures .0) (k .kept .0) (k .ensures .1) _ (c .before .before .all-more .ensures .1) ∙ ap (λ (t : List ℕ). onto t (now (a .output))) e)
+    let e = sym (list-some (a .kind) (now (a .xs)) (c .before .before .before .before .before .before .before .before .before .before .if1 .left)) in (
+      both-length (front (a .kind) (now (a .xs))) (back (a .kind) (now (a .xs))) (now (a .output)) (k .last .0) (k .result) h (k .ensures .0) (k .kept .0) _ (c .before .before .all-more .ensures .0) ∙ ap length e,
+      both-onto (front (a .kind) (now (a .xs))) (back (a .kind) (now (a .xs))) (now (a .output)) (k .last .0) (k .result) h (k .ensures .0) (k .kept .0) (k .ensures .1) _ (c .before .before .all-more .ensures .1) ∙ ap (λ (t : List ℕ). onto t (now (a .output))) e,
+    )
 
 pub list-spec : {M : Type 1} → statement M
 list-spec =

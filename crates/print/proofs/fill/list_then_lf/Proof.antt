@@ -35,9 +35,10 @@ same-length c =
 returns : tie.Need-returns
 returns c =
     let a = c .before .before .before .before .before .before .args in
-    let k = c .before .before .list in
-    (byte-length (listText (a .kind) (now (a .xs))) (now (a .output)) (k .last .0) (k .result) lf (c .before .before .before .before .before .before .pre) (k .ensures .0) (k .kept .0),
-    byte-onto (listText (a .kind) (now (a .xs))) (now (a .output)) (k .last .0) (k .result) lf (c .before .before .before .before .before .before .pre) (k .ensures .0) (k .kept .0) (k .ensures .1))
+    let k = c .before .before .list in (
+      byte-length (listText (a .kind) (now (a .xs))) (now (a .output)) (k .last .0) (k .result) lf (c .before .before .before .before .before .before .pre) (k .ensures .0) (k .kept .0),
+      byte-onto (listText (a .kind) (now (a .xs))) (now (a .output)) (k .last .0) (k .result) lf (c .before .before .before .before .before .before .pre) (k .ensures .0) (k .kept .0) (k .ensures .1),
+    )
 
 pub list-then-lf-spec : {M : Type 1} → statement M
 list-then-lf-spec =

@@ -52,9 +52,10 @@ same-length c =
 
 returns : tie.Need-returns
 returns c =
-    let a = c .before .before .before .before .before .before .before .before .before .args in
-    (both-length (front (a .x)) (back (a .x)) (now (a .output)) (c .before .before .before .before .before .before .number-then .last .0) (c .before .before .before .before .before .before .number-then .result) (c .before .before .before .before .before .before .before .before .before .pre) (c .before .before .before .before .before .before .number-then .ensures .0) (c .before .before .before .before .before .before .number-then .kept .0) _ (c .before .before .number .ensures .0),
-    both-onto (front (a .x)) (back (a .x)) (now (a .output)) (c .before .before .before .before .before .before .number-then .last .0) (c .before .before .before .before .before .before .number-then .result) (c .before .before .before .before .before .before .before .before .before .pre) (c .before .before .before .before .before .before .number-then .ensures .0) (c .before .before .before .before .before .before .number-then .kept .0) (c .before .before .before .before .before .before .number-then .ensures .1) _ (c .before .before .number .ensures .1))
+    let a = c .before .before .before .before .before .before .before .before .before .args in (
+      both-length (front (a .x)) (back (a .x)) (now (a .output)) (c .before .before .before .before .before .before .number-then .last .0) (c .before .before .before .before .before .before .number-then .result) (c .before .before .before .before .before .before .before .before .before .pre) (c .before .before .before .before .before .before .number-then .ensures .0) (c .before .before .before .before .before .before .number-then .kept .0) _ (c .before .before .number .ensures .0),
+      both-onto (front (a .x)) (back (a .x)) (now (a .output)) (c .before .before .before .before .before .before .number-then .last .0) (c .before .before .before .before .before .before .number-then .result) (c .before .before .before .before .before .before .before .before .before .pre) (c .before .before .before .before .before .before .number-then .ensures .0) (c .before .before .before .before .before .before .number-then .kept .0) (c .before .before .before .before .before .before .number-then .ensures .1) _ (c .before .before .number .ensures .1),
+    )
 
 pub low-spec : {M : Type 1} → statement M
 low-spec =

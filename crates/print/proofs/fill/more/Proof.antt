@@ -46,9 +46,10 @@ same-length c =
 returns : tie.Need-returns
 returns c =
     let a = c .before .before .before .before .before .args in
-    let first = onto-first (now (a .output)) comma (omega (arith, c .before .before .before .before .before .pre)) in
-    (both-length (comma ∷ []) (itemText (a .kind) (a .x)) (now (a .output)) (set (now (a .output)) 0 comma) 1 (c .before .before .before .before .before .pre) refl (length-set (now (a .output)) 0 comma) _ (c .before .before .item .ensures .0),
-    both-onto (comma ∷ []) (itemText (a .kind) (a .x)) (now (a .output)) (set (now (a .output)) 0 comma) 1 (c .before .before .before .before .before .pre) refl (length-set (now (a .output)) 0 comma) first _ (c .before .before .item .ensures .1))
+    let first = onto-first (now (a .output)) comma (omega (arith, c .before .before .before .before .before .pre)) in (
+      both-length (comma ∷ []) (itemText (a .kind) (a .x)) (now (a .output)) (set (now (a .output)) 0 comma) 1 (c .before .before .before .before .before .pre) refl (length-set (now (a .output)) 0 comma) _ (c .before .before .item .ensures .0),
+      both-onto (comma ∷ []) (itemText (a .kind) (a .x)) (now (a .output)) (set (now (a .output)) 0 comma) 1 (c .before .before .before .before .before .pre) refl (length-set (now (a .output)) 0 comma) first _ (c .before .before .item .ensures .1),
+    )
 
 pub more-spec : {M : Type 1} → statement M
 more-spec =

@@ -34,9 +34,10 @@ same-length c =
 returns : tie.Need-returns
 returns c =
     let a = c .before .before .before .before .before .args in
-    let k = c .before .before .number in
-    (byte-length (decimalOf (a .v)) (now (a .output)) (k .last .0) (k .result) (a .b) (c .before .before .before .before .before .pre) (k .ensures .0) (k .kept .0),
-    byte-onto (decimalOf (a .v)) (now (a .output)) (k .last .0) (k .result) (a .b) (c .before .before .before .before .before .pre) (k .ensures .0) (k .kept .0) (k .ensures .1))
+    let k = c .before .before .number in (
+      byte-length (decimalOf (a .v)) (now (a .output)) (k .last .0) (k .result) (a .b) (c .before .before .before .before .before .pre) (k .ensures .0) (k .kept .0),
+      byte-onto (decimalOf (a .v)) (now (a .output)) (k .last .0) (k .result) (a .b) (c .before .before .before .before .before .pre) (k .ensures .0) (k .kept .0) (k .ensures .1),
+    )
 
 pub number-then-spec : {M : Type 1} → statement M
 number-then-spec =
