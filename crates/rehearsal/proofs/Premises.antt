@@ -17,11 +17,10 @@ use Rattle.agreement.specs.Hall.{Hall}
 use Rattle.agreement.specs.Granted.{Granted}
 use Rattle.agreement.specs.Rule.{breaksRule}
 use Rattle.agreement.proofs.Carried.{carried-granted}
-use Rattle.schedule.specs.Header.{headerSize}
 use Rattle.schedule.specs.Sends.{Send}
 use Rattle.schedule.specs.Forms.{formOf}
 use Rattle.schedule.specs.declared.Form.the-variants.{Good}
-use Rattle.contents.specs.Contents.{isFaulty, entriesOfTray, sendsOf, messageFor, messageIn, numbered}
+use Rattle.contents.specs.Contents.{sendLine, isFaulty, entriesOfTray, sendsOf, messageFor, messageIn, numbered}
 use Rattle.contents.proofs.Good.{good-sizes, faulty-count, tray-batch, tray-entries}
 use Rattle.contents.proofs.Found.{message-bytes, message-size}
 use Rattle.played.specs.Playing.{hallOf, breachFrom, breach}
@@ -41,10 +40,10 @@ unfolding breachFrom messageIn
 message-keeps hall k [] l h r j i = silence-keeps hall r
 message-keeps hall k (x ∷ xs) l h r j i =
     go (breaksRule hall (x .round) (x .message)) refl (numbered r j i (x .round) (x .from) (x .to)) refl
-    (λ g. message-keeps hall (suc k) xs (omega arith) g r j i)
+    (λ g. message-keeps hall (k + 1) xs (omega arith) g r j i)
   where
     go : (b : Bool) → breaksRule hall (x .round) (x .message) ≡ b → (t : Bool) → numbered r j i (x .round) (x .from) (x .to) ≡ t
-        → (breachFrom hall (suc k) xs ≡ 0 → breaksRule hall r (messageIn r j i xs) ≡ false)
+        → (breachFrom hall (k + 1) xs ≡ 0 → breaksRule hall r (messageIn r j i xs) ≡ false)
         → breaksRule hall r (cond (numbered r j i (x .round) (x .from) (x .to)) (x .message) (messageIn r j i xs)) ≡ false
     go true e t q rest = absurd (let z : k ≡ 0 = rw e at h in omega arith)
     go false e true q rest = rw q (subst (λ (y : ℕ). breaksRule hall y (x .message) ≡ false) (numbers-are r j i (x .round) (x .from) (x .to) q) e)
@@ -67,4 +66,4 @@ module _ (s : List ℕ) (n f : ℕ) (good : formOf s ≡ Good n f) where
         bytes = λ i j r ci fj b. message-bytes s r j i;
       })
       (faulty-count s n f good) empty-log
-      (λ i j r ci fj b. message-keeps (hallOf s n f) (suc headerSize + n) (sendsOf s) (omega arith) kept r j i)
+      (λ i j r ci fj b. message-keeps (hallOf s n f) (sendLine s 0) (sendsOf s) (omega arith) kept r j i)

@@ -1,7 +1,7 @@
 -- What is told of a schedule: a bad line is short, and what was played is what the report asks for: the nodes after the last round, and who is faulty.
 use Prim.Native.Nat.{ℕ, zero, suc, _+_, _^_, _≤_, _<_}
 use mathlib.Core.Path.{_≡_, refl, sym, ap, ap₂, subst, _∙_}
-use mathlib.Core.Bool.{Bool, true, false}
+use mathlib.Core.Bool.{Bool, true, false, _&&_}
 use mathlib.Core.List.{List, [], _∷_}
 use native.Mathlib.Nat.{le-trans}
 use native.Mathlib.Numerals.{add-one}
@@ -28,7 +28,7 @@ use Rattle.played.specs.declared.Played.{Played}
 use Rattle.report.specs.Signing.{hasBit}
 use Rattle.report.specs.Report.{reportOf, textMost, nodeAt, Writes, Reports}
 use Rattle.report.proofs.Printing.{put-writes, writes-as}
-use Rattle.report.proofs.Bounds.{decimal-most, line-length}
+use Rattle.print.proofs.Lengths.{decimal-bound, line-length}
 use Rattle.report.proofs.Alike.{same-nodes}
 use Rattle.rehearsal.specs.Rehearsal.{badKey, badText, playedText}
 use Rattle.rehearsal.specs.Telling.{Tells}
@@ -39,7 +39,7 @@ use Rattle.rehearsal.specs.Telling.{Tells}
 pub bad-tells : (k : ℕ) (w text : List ℕ) (r : ℕ) (after : List ℕ) → k < 2 ^ 64 → w ≡ badText k → Put (badText k) text r after → Tells w text r after
 bad-tells k w text r after l e p = record {
   writes = writes-as (badText k) w text r after (sym e) (put-writes (badText k) text r after p);
-  most = subst (λ (x : List ℕ). length x ≤ textMost) (sym e) (omega (arith, line-length badKey (decimalOf k), decimal-most 19 k (omega arith)));
+  most = subst (λ (x : List ℕ). length x ≤ textMost) (sym e) (omega (arith, line-length badKey (decimalOf k), decimal-bound 19 k (omega arith)));
 }
 
 -- ---- what was played
@@ -54,19 +54,19 @@ module _ (s : List ℕ) (n f : ℕ) (good : formOf s ≡ Good n f) where
 
   module _ (p : Played) (e : p ≡ playedOf s n f) where
     bad-is : p .bad ≡ breach s n f
+    unfolding playedTo
     bad-is = ap (λ (x : Played). x .bad) (e ∙ is-played) ∙ go (breach s n f)
       where
         go : (k : ℕ) → playedTo hall k .bad ≡ k
-        unfolding playedTo
         go zero = refl
         go (suc k) = refl
 
     -- the first send that breaks the rule
     pub broken : 0 < p .bad → playedText s n f (breach s n f) ≡ badText (p .bad)
+    unfolding playedText
     broken l = go (breach s n f) refl
       where
         go : (k : ℕ) → breach s n f ≡ k → playedText s n f (breach s n f) ≡ badText (p .bad)
-        unfolding playedText
         go zero q = absurd (omega (arith, bad-is))
         go (suc k) q = ap (playedText s n f) q ∙ ap badText (sym (bad-is ∙ q))
 
@@ -76,30 +76,38 @@ module _ (s : List ℕ) (n f : ℕ) (good : formOf s ≡ Good n f) where
       nodes-are : p .nodes ≡ playedTo hall 0 .nodes
       nodes-are = ap (λ (x : Played). x .nodes) (e ∙ is-played ∙ ap (playedTo hall) (sym bad-is ∙ none))
 
-      node-is : (i : ℕ) → i < n → isFaulty s i ≡ false → nodeAfter hall i (f + 1) ≡ nodeAt (p .nodes) i
-      unfolding playedTo nodeBefore
+      abbrev handed : ℕ → Node
+      handed i = nodeAt (p .nodes) i
+
+      within : (i : ℕ) → i < n → i < nodesMost
+      within i l = le-trans l (sized-most n (good-sizes s n f good .0))
+
+      node-at : (i : ℕ) → i < n → handed i ≡ stoodAt hall (suc (suc f)) i .node
+      unfolding playedTo
+      node-at i l = ap (λ (ns : List Node). nodeAt ns i) nodes-are ∙ each-at (λ (j : ℕ). stoodAt hall (suc (suc f)) j .node) _ nodesMost i (within i l)
+
+      node-is : (i : ℕ) → i < n → isFaulty s i ≡ false → nodeAfter hall i (f + 1) ≡ handed i
+      unfolding nodeBefore
       node-is i l h =
-          let within : i < nodesMost = le-trans l (sized-most n (good-sizes s n f good .0)) in
           let fine : correct hall i ≡ true = simp (lt-ltb i n l, h) in
-          sym (ap (λ (ns : List Node). nodeAt ns i) nodes-are
-              ∙ each-at (λ (j : ℕ). stoodAt hall (suc (suc f)) j .node) _ nodesMost i within
-              ∙ simp fine
-              ∙ ap (nodeAfter hall i) (sym (add-one f)))
+          let stands : stoodAt hall (suc (suc f)) i .node ≡ nodeAfter hall i (suc f) = simp fine in
+          ap (nodeAfter hall i) (add-one f) ∙ sym (node-at i l ∙ stands)
+
+      as-test : (b : Bool) → eqb (asBit b) 1 ≡ b
+      as-test true = refl
+      as-test false = refl
 
       faulty-is : (j : ℕ) → j < n → isFaulty s j ≡ hasBit (maskOf (isFaulty s) nodesMost) j
       faulty-is j l =
-          let within : j < nodesMost = le-trans l (sized-most n (good-sizes s n f good .0)) in
-          sym (ap (λ (x : ℕ). eqb x 1) (mask-bit (isFaulty s) nodesMost j ∙ simp (lt-ltb j nodesMost within)) ∙ as-test (isFaulty s j))
-        where
-          as-test : (b : Bool) → eqb (asBit b) 1 ≡ b
-          as-test true = refl
-          as-test false = refl
+          let own : bit (maskOf (isFaulty s) nodesMost) j ≡ asBit (ltb j nodesMost && isFaulty s j) = mask-bit (isFaulty s) nodesMost j in
+          let its : bit (maskOf (isFaulty s) nodesMost) j ≡ asBit (isFaulty s j) = own ∙ ap (λ (b : Bool). asBit (b && isFaulty s j)) (lt-ltb j nodesMost (within j l)) in
+          sym (ap (λ (x : ℕ). eqb x 1) its ∙ as-test (isFaulty s j))
 
       reported : playedText s n f (breach s n f) ≡ reportOf n f (hasBit (maskOf (isFaulty s) nodesMost)) (nodeAt (p .nodes))
       unfolding playedText
       reported =
           ap (playedText s n f) (sym bad-is ∙ none)
-          ∙ same-nodes n (isFaulty s) (hasBit (maskOf (isFaulty s) nodesMost)) faulty-is (λ (i : ℕ). nodeAfter hall i (f + 1)) (nodeAt (p .nodes)) node-is f
+          ∙ same-nodes n (isFaulty s) (hasBit (maskOf (isFaulty s) nodesMost)) faulty-is (λ (i : ℕ). nodeAfter hall i (f + 1)) handed node-is f
 
       pub report-tells : (m : ℕ) → m ≡ maskOf (isFaulty s) nodesMost → (text : List ℕ) (r : ℕ) (after : List ℕ) → Reports n f m (p .nodes) text r after
           → Tells (playedText s n f (breach s n f)) text r after

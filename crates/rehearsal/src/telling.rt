@@ -17,7 +17,8 @@ fn tell_played(schedule: &[u8], n: usize, f: usize, text: &mut [u8]) -> usize
     if 0 < bad {
         return print::put_number_line(text, b"bad=", bad as u64);
     }
-    report::report_into(n, f, contents::faulty_mask(schedule), played.nodes, text)
+    let nodes = played.nodes;
+    report::report_into(n, f, contents::faulty_mask(schedule), nodes, text)
 }
 
 // The whole text.
