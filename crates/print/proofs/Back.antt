@@ -137,10 +137,10 @@ entry-back x h =
     let a = front-back (x / 2 ^ 48) halfMost (omega arith) (lowText x) in
     let r = rest-back (x / 2 ^ 48) halfMost (omega arith) (lowText x) in
     let b : fieldOf dot halfMost (past dot (entryText x)) ≡ Value (x / 2 ^ 32 % 2 ^ 16) =
-        ap (fieldOf dot halfMost) r ∙ front-back (x / 2 ^ 32 % 2 ^ 16) halfMost (omega arith) (decimalOf (x % 2 ^ 32)) in
+    ap (fieldOf dot halfMost) r ∙ front-back (x / 2 ^ 32 % 2 ^ 16) halfMost (omega arith) (decimalOf (x % 2 ^ 32)) in
     let d : numberOf wordMost (past dot (past dot (entryText x))) ≡ Value (x % 2 ^ 32) =
-        ap (λ (t : List ℕ). numberOf wordMost (past dot t)) r
-        ∙ ap (numberOf wordMost) (rest-back (x / 2 ^ 32 % 2 ^ 16) halfMost (omega arith) (decimalOf (x % 2 ^ 32)))
-        ∙ number-back wordMost (x % 2 ^ 32) (omega arith) in
+    ap (λ (t : List ℕ). numberOf wordMost (past dot t)) r
+    ∙ ap (numberOf wordMost) (rest-back (x / 2 ^ 32 % 2 ^ 16) halfMost (omega arith) (decimalOf (x % 2 ^ 32)))
+    ∙ number-back wordMost (x % 2 ^ 32) (omega arith) in
     let sum : x / 2 ^ 48 * 2 ^ 48 + x / 2 ^ 32 % 2 ^ 16 * 2 ^ 32 + x % 2 ^ 32 ≡ x = omega arith in
     simp (a, b, d) (ap Value sum)

@@ -106,8 +106,7 @@ module _ (s : List ℕ) (n f : ℕ) (good : formOf s ≡ Good n f) (kept : breac
   one-log : (log : List ℕ) × Printed s n f log
   unfolding formText
   one-log =
-      let one = one-of (agreed hall G) in
-      (
+      let one = one-of (agreed hall G) in (
         one .0,
         record {
           prints = ap (formText s) good ∙ ap (playedText s n f) kept ∙ one-text (one .0) (one .1);

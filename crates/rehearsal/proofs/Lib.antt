@@ -1,3 +1,4 @@
 pub mod Premises
 pub mod Agreed
 pub mod Tellings
+pub mod Determined

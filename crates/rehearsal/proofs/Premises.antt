@@ -1,6 +1,6 @@
 -- A schedule of good form that does not break the rule on shown votes is a run that demand 3 grants: its run is carried whole, and every message of a faulty
 -- node is one of its sends, or silence.
-use Prim.Native.Nat.{ℕ, suc, _+_, _<_}
+use Prim.Native.Nat.{ℕ, _+_, _<_}
 use mathlib.Core.Path.{_≡_, refl, sym, subst}
 use mathlib.Core.Bool.{Bool, true, false, cond}
 use mathlib.Core.List.{List, [], _∷_}

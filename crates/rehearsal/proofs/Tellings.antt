@@ -2,13 +2,14 @@
 use Prim.Native.Nat.{ℕ, zero, suc, _+_, _^_, _≤_, _<_}
 use mathlib.Core.Path.{_≡_, refl, sym, ap, ap₂, subst, _∙_}
 use mathlib.Core.Bool.{Bool, true, false, _&&_}
-use mathlib.Core.List.{List, [], _∷_}
+use mathlib.Core.List.{List}
 use native.Mathlib.Nat.{le-trans}
 use native.Mathlib.Numerals.{add-one}
 use native.Mathlib.Omega.{arith}
-use borrow.Author.Tests.{lt-ltb, eq-eqb}
+use borrow.Author.Tests.{lt-leb, le-leb, lt-ltb, eq-eqb}
 use lib.Dec.{eqb, ltb}
-use lib.ListN.{length, getD}
+use lib.ListN.{length, take, drop}
+use lib.Seq.{take-append-seam}
 use Rattle.laws.specs.Masks.{bit, asBit, maskOf}
 use Rattle.laws.proofs.Bits.{mask-bit}
 use Rattle.rules.specs.Sizes.{nodesMost}
@@ -17,20 +18,21 @@ use Rattle.rules.proofs.Sizes.{sized-most}
 use Rattle.node.specs.declared.Node.{Node}
 use Rattle.agreement.specs.Hall.{Hall, nodeAfter}
 use Rattle.text.specs.Put.{Put}
-use Rattle.print.specs.Texts.{decimalOf, lineText}
+use Rattle.print.specs.Texts.{decimalOf}
 use Rattle.schedule.specs.Forms.{formOf}
-use Rattle.schedule.specs.declared.Form.the-variants.{Good}
+use Rattle.schedule.specs.declared.Form.{Form}
+use Rattle.schedule.specs.declared.Form.the-variants.{Good, Bad}
 use Rattle.contents.specs.Contents.{isFaulty}
 use Rattle.contents.proofs.Good.{good-sizes}
 use Rattle.played.specs.Standing.{correct, nodeBefore, stoodAt}
 use Rattle.played.specs.Playing.{hallOf, breach, goodAs, playedTo, playedOf}
 use Rattle.played.specs.declared.Played.{Played}
 use Rattle.report.specs.Signing.{hasBit}
-use Rattle.report.specs.Report.{reportOf, textMost, nodeAt, Writes, Reports}
+use Rattle.report.specs.Report.{reportOf, textMost, nodeAt, Reports}
 use Rattle.report.proofs.Printing.{put-writes, writes-as}
 use Rattle.print.proofs.Lengths.{decimal-bound, line-length}
 use Rattle.report.proofs.Alike.{same-nodes}
-use Rattle.rehearsal.specs.Rehearsal.{badKey, badText, playedText}
+use Rattle.rehearsal.specs.Rehearsal.{badKey, badText, playedText, formText, rehearsalOf, Rehearse}
 use Rattle.rehearsal.specs.Telling.{Tells}
 
 -- ---- a bad line
@@ -119,3 +121,36 @@ module _ (s : List ℕ) (n f : ℕ) (good : formOf s ≡ Good n f) where
             writes = writes-as _ (playedText s n f (breach s n f)) text r after (sym reported) (t .writes nodes);
             most = subst (λ (x : List ℕ). length x ≤ textMost) (sym reported) (t .most nodes (omega (arith, sizes .1)));
           }
+
+-- ---- the whole text
+
+module _ (s text : List ℕ) (r : ℕ) (after : List ℕ) where
+  pub good-told : (n f : ℕ) → formOf s ≡ Good n f → Tells (playedText s n f (breach s n f)) text r after → Tells (rehearsalOf s) text r after
+  unfolding formText
+  good-told n f e t = subst (λ (x : Form). Tells (formText s x) text r after) (sym e) t
+
+  pub bad-told : (line : ℕ) → formOf s ≡ Bad line → line < 2 ^ 64 → Put (badText line) text r after → Tells (rehearsalOf s) text r after
+  unfolding formText
+  bad-told line e l p = bad-tells line (rehearsalOf s) text r after l (ap (formText s) e) p
+
+-- ---- and the output: refused where it is too short, else written
+
+module _ (s blank text output : List ℕ) (size : ℕ) (told : Tells (rehearsalOf s) blank size text) (room : length blank ≡ textMost) where
+  size-is : size ≡ length (rehearsalOf s)
+  size-is = told .writes .answers (omega (arith, told .most))
+
+  text-is : take size text ≡ rehearsalOf s
+  text-is =
+      ap₂ (λ (k : ℕ) (t : List ℕ). take k t) size-is (told .writes .leaves (omega (arith, told .most)))
+      ∙ take-append-seam (rehearsalOf s) (drop (length (rehearsalOf s)) blank)
+
+  pub too-short : length output < size → Rehearse s output (record { number = 9; length = 0 }) output
+  too-short l =
+      let e = lt-leb (length (rehearsalOf s)) (length output) (omega (arith, size-is)) in
+      record { number = simp e; size = simp e; output-is = simp e }
+
+  pub written : size ≤ length output → (k : ℕ) (after : List ℕ) → Put (take size text) output k after → Rehearse s output (record { number = 0; length = k }) after
+  written l k after p =
+      let e = le-leb (length (rehearsalOf s)) (length output) (omega (arith, size-is)) in
+      let q : Put (rehearsalOf s) output k after = subst (λ (w : List ℕ). Put w output k after) text-is p in
+      record { number = simp e; size = q .answers ∙ simp e; output-is = q .leaves ∙ simp e }

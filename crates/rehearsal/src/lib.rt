@@ -3,6 +3,7 @@ ghost use mathlib.Core.Path.{_≡_};
 ghost use mathlib.Core.Bool.{true};
 ghost use Rattle.rehearsal.specs.Claim.{RehearsalsAgree};
 ghost use Rattle.rehearsal.specs.Rehearsal.{Rehearse};
+
 mod telling;
 
 use report::TEXT_MOST;
