@@ -8,7 +8,6 @@ ghost use Rattle.text.specs.Put.{Put};
 ghost use Rattle.text.specs.Lines.{linesOf};
 ghost use Rattle.tray.specs.Trays.{trayOf};
 ghost use Rattle.contents.specs.Contents.{entriesOfTray, isFaulty, messageFor, numbered, sendingAt, sendsIn, sendsOf};
-
 use schedule::HEADER_SIZE;
 use schedule::Headed;
 use schedule::Sending;
@@ -59,7 +58,11 @@ pub fn send_count(s: &[u8]) -> usize
     while at < lines.len() {
         let line = text::first_line(&lines[at..]);
         match schedule::read_send(line) {
-            Sending::Sent { round: _, from: _, to: _ } => {
+            Sending::Sent {
+                round: _,
+                from: _,
+                to: _,
+            } => {
                 count += 1;
             }
             Sending::NoSend => {
@@ -97,7 +100,14 @@ pub fn send_at(s: &[u8], k: usize) -> Sending
 }
 
 // Whether a send's numbers are these.
-fn is_numbered(r: usize, from: usize, to: usize, round: usize, sender: usize, receiver: usize) -> bool
+fn is_numbered(
+    r: usize,
+    from: usize,
+    to: usize,
+    round: usize,
+    sender: usize,
+    receiver: usize,
+) -> bool
     ensures { λ a. ⌜ a ≡ numbered r from to round sender receiver ⌝ }
 {
     if round != r {

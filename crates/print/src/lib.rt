@@ -1,6 +1,7 @@
 // Printing: each writer writes over the front of the output that it is lent if there is room for the whole text, and else writes nothing.
 ghost use Rattle.text.specs.Put.{Put};
 ghost use Rattle.print.specs.Texts.{decimalOf, lineText, listText};
+
 mod fill;
 mod sizes;
 

@@ -41,6 +41,10 @@ pub enum Headed {
 
 // What a line reads as that should be a send.
 pub enum Sending {
-    Sent { round: usize, from: usize, to: usize },
+    Sent {
+        round: usize,
+        from: usize,
+        to: usize,
+    },
     NoSend,
 }

@@ -9,9 +9,9 @@ use crate::Kind;
 use crate::LF;
 use crate::Listed;
 use crate::Number;
+use crate::decimal::read_number;
 use crate::list::no_list;
 use crate::list::read_list;
-use crate::decimal::read_number;
 use crate::places::place;
 
 // The length of the first line, its LF included.

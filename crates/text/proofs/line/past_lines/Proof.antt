@@ -33,7 +33,8 @@ returns : tie.Need-returns Inv-loop μ-loop
 returns c =
     let s = now (c .before .before .before .before .before .args .s) in
     let l = c .before .before .before .loop in
-    ap linesOf (rest-of s (l .at)) ∙ lines-over s (l .at) (l .i) (c .before .before .before .before .before .args .k) (c .before .if1 .taken) (omega arith) (l .inv .2)
+    ap linesOf (rest-of s (l .at)) ∙ lines-over s (l .at) (l .i) (c .before .before .before .before .before .args .k) (c .before .if1 .taken)
+    (omega arith) (l .inv .2)
 
 sub-line-len : tie.Need-sub-line-len Inv-loop μ-loop
 sub-line-len c = search needs
@@ -62,9 +63,11 @@ loop-less c = search needs
 loop-again : tie.Need-loop-again Inv-loop μ-loop
 loop-again c =
     let s = now (c .before .before .before .before .before .before .args .s) in
-    let l = c .before .before .before .before .loop in
-    (len-fits s (l .at) (c .line-len .result) (omega arith) (c .line-len .ensures), omega arith,
-    lines-turn s (l .at) (l .i) (c .line-len .result) (c .line-len .ensures) (l .inv .2))
+    let l = c .before .before .before .before .loop in (
+      len-fits s (l .at) (c .line-len .result) (omega arith) (c .line-len .ensures),
+      omega arith,
+      lines-turn s (l .at) (l .i) (c .line-len .result) (c .line-len .ensures) (l .inv .2),
+    )
 
 sub-result-2 : tie.Need-sub-result-2 Inv-loop μ-loop
 sub-result-2 c = search needs
