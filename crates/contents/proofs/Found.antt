@@ -43,20 +43,24 @@ rank-above a (y ∷ ys) x o i =
 found-in : (xs : List Send) (x : Send) → ascends (map rankOf xs) ≡ true → In x xs → messageIn (x .round) (x .from) (x .to) xs ≡ x .message
 unfolding messageIn
 found-in [] x o i = absurd i
-found-in (y ∷ ys) x o i = go (numbered (x .round) (x .from) (x .to) (y .round) (y .from) (y .to)) refl i (λ j. found-in ys x (rest-ascends (rankOf y) (map rankOf ys) o) j)
+found-in (y ∷ ys) x o i = go (numbered (x .round) (x .from) (x .to) (y .round) (y .from) (y .to)) refl i (λ j. found-in ys x (rest-ascends
+    (rankOf y) (map rankOf ys) o) j)
   where
     go : (t : Bool) → numbered (x .round) (x .from) (x .to) (y .round) (y .from) (y .to) ≡ t → (x ≡ y) ⊎ In x ys
-        → (In x ys → messageIn (x .round) (x .from) (x .to) ys ≡ x .message) → cond t (y .message) (messageIn (x .round) (x .from) (x .to) ys) ≡ x .message
+        → (In x ys → messageIn (x .round) (x .from) (x .to) ys ≡ x .message)
+        → cond t (y .message) (messageIn (x .round) (x .from) (x .to) ys) ≡ x .message
     go true e (inl q) rest = ap (λ (z : Send). z .message) (sym q)
     go true e (inr j) rest =
         let t = numbered-told (x .round) (x .from) (x .to) (y .round) (y .from) (y .to) e in
         absurd (omega (arith, rank-above (rankOf y) ys x o j, t .0, t .1, t .2))
     go false e (inl q) rest =
-        absurd (clash (subst (λ (z : Send). numbered (x .round) (x .from) (x .to) (z .round) (z .from) (z .to) ≡ true) q (numbered-same (x .round) (x .from) (x .to))) e)
+        absurd (clash (subst (λ (z : Send). numbered (x .round) (x .from) (x .to) (z .round) (z .from) (z .to) ≡ true) q (numbered-same (x .round)
+        (x .from) (x .to))) e)
     go false e (inr j) rest = rest j
 
 -- the message of a send is what is found for its numbers
-pub message-found : (s : List ℕ) (n f : ℕ) → formOf s ≡ Good n f → (x : Send) → In x (sendsOf s) → messageFor s (x .round) (x .from) (x .to) ≡ x .message
+pub message-found : (s : List ℕ) (n f : ℕ) → formOf s ≡ Good n f → (x : Send) → In x (sendsOf s)
+    → messageFor s (x .round) (x .from) (x .to) ≡ x .message
 message-found s n f good x i = found-in (sendsOf s) x (sends-ascend s n f good) i
 
 -- what is found for some numbers is the message of a send that has them
@@ -76,7 +80,8 @@ from-in r i j (y ∷ ys) = go (numbered r i j (y .round) (y .from) (y .to)) refl
   where
     go : (t : Bool) → numbered r i j (y .round) (y .from) (y .to) ≡ t
         → (messageIn r i j ys ≡ []) ⊎ ((x : Send) × In x ys × (x .round ≡ r) × (x .from ≡ i) × (x .to ≡ j) × (messageIn r i j ys ≡ x .message))
-        → (cond t (y .message) (messageIn r i j ys) ≡ []) ⊎ ((x : Send) × In x (y ∷ ys) × (x .round ≡ r) × (x .from ≡ i) × (x .to ≡ j) × (cond t (y .message) (messageIn r i j ys) ≡ x .message))
+        → (cond t (y .message) (messageIn r i j ys) ≡ []) ⊎ ((x : Send) × In x (y ∷ ys) × (x .round ≡ r) × (x .from ≡ i) × (x .to ≡ j) × (cond t
+        (y .message) (messageIn r i j ys) ≡ x .message))
     go true e rest = let t = numbered-told r i j (y .round) (y .from) (y .to) e in inr (y, inl refl, t .0, t .1, t .2, refl)
     go false e (inl q) = inl q
     go false e (inr q) = inr (q .0, inr (q .1), q .2, q .3, q .4, q .5)

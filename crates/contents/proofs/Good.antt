@@ -1,13 +1,13 @@
 -- What the run needs of a schedule of good form: its sizes, its faulty nodes, its trays, its sends and their order.
 use Prim.Native.Nat.{_*_, _+_, _<_, _^_, _≤_, ℕ}
-use mathlib.Core.Bool.{Bool, _&&_, false, not, true}
+use mathlib.Core.Bool.{Bool, false, true}
 use mathlib.Core.List.{List, [], _∷_, map}
 use mathlib.Core.Logic.{_⊎_, inl, inr, ⊎-elim}
 use mathlib.Core.Option.{Option, none, some}
 use mathlib.Core.Path.{_∙_, _≡_, ap, refl, subst, sym}
 use native.Mathlib.Omega.{arith}
-use borrow.Author.Tests.{eqb-true, leb-true, ltb-true, not-true}
-use lib.Dec.{eqb, leb, ltb}
+use borrow.Author.Tests.{eqb-true}
+use lib.Dec.{eqb, leb}
 use lib.ListN.{List·getD-eq-default, drop, getD, length}
 use Rattle.laws.specs.Masks.{count}
 use Rattle.laws.specs.Members.{In, holds}
@@ -25,9 +25,10 @@ use Rattle.text.proofs.Items.{below-small, entry-item, line-batch, line-read}
 use Rattle.schedule.specs.Forms.{formOf}
 use Rattle.schedule.specs.Header.{headerSize}
 use Rattle.schedule.specs.Keys.{faultyKey, trayKey}
-use Rattle.schedule.specs.Sends.{Send, faultyBit, fitting, rankOf}
+use Rattle.schedule.specs.Sends.{Send, rankOf}
 use Rattle.schedule.specs.declared.Form.the-variants.{Good}
 use Rattle.schedule.specs.declared.Header.{Header}
+use Rattle.schedule.proofs.Fits.{fitting-told}
 use Rattle.contents.specs.Contents.{entriesOfTray, faultyOf, headerOf, isFaulty, itemsIn, sendsOf}
 use Rattle.contents.proofs.Bytes.{sends-bytes}
 use Rattle.contents.proofs.Faults.{bit-correct, bit-faulty, count-listed, faulty-is}
@@ -82,9 +83,9 @@ module _ (s : List ℕ) (n f : ℕ) (good : formOf s ≡ Good n f) where
   pub faulty-ascends : ascends (faultyOf s) ≡ true
   unfolding isBatch
   faulty-ascends =
-      let xs : List ℕ = is .whole .faulty in
       let b = line-batch faultyKey (Below (is .header .n)) (getD (drop 1 (drop 1 (linesOf s))) 0 []) (is .whole .faulty) (is .whole .listed) in
-      ap ascends (faulty-is s (is .header) (is .read) (is .whole)) ∙ both (leb (length (is .whole .faulty)) batchMost) (ascends (is .whole .faulty)) b .1
+      ap ascends (faulty-is s (is .header) (is .read) (is .whole))
+      ∙ both (leb (length (is .whole .faulty)) batchMost) (ascends (is .whole .faulty)) b .1
 
   -- a faulty node is one of the n
   pub faulty-node : (j : ℕ) → isFaulty s j ≡ true → j < n
@@ -103,27 +104,20 @@ module _ (s : List ℕ) (n f : ℕ) (good : formOf s ≡ Good n f) where
 
   -- what is asked of a send
   pub good-send : (x : Send) → In x (sendsOf s) → Fair s n f x
-  unfolding fitting
   good-send x i =
-      let h : Header = is .header in
-      let a = both (leb 1 (x .round)) (leb (x .round) (is .header .f + 1) && (faultyBit (is .header) (x .from) && (ltb (x .to) (is .header .n) && (not (faultyBit (is .header) (x .to)) && (leb 1 (length (x .message)) && leb (length (x .message)) messageMost))))) (is .sends .fit x i) in
-      let b = both (leb (x .round) (is .header .f + 1)) (faultyBit (is .header) (x .from) && (ltb (x .to) (is .header .n) && (not (faultyBit (is .header) (x .to)) && (leb 1 (length (x .message)) && leb (length (x .message)) messageMost)))) (a .1) in
-      let c = both (faultyBit (is .header) (x .from)) (ltb (x .to) (is .header .n) && (not (faultyBit (is .header) (x .to)) && (leb 1 (length (x .message)) && leb (length (x .message)) messageMost))) (b .1) in
-      let d = both (ltb (x .to) (is .header .n)) (not (faultyBit (is .header) (x .to)) && (leb 1 (length (x .message)) && leb (length (x .message)) messageMost)) (c .1) in
-      let e = both (not (faultyBit (is .header) (x .to))) (leb 1 (length (x .message)) && leb (length (x .message)) messageMost) (d .1) in
-      let g = both (leb 1 (length (x .message))) (leb (length (x .message)) messageMost) (e .1) in
-      let from = bit-faulty s (is .header) (is .read) (x .from) (c .0) in
-      let to : x .to < is .header .n = ltb-true (x .to) (is .header .n) (d .0) in
+      let t = fitting-told (is .header) (x .round) (x .from) (x .to) (length (x .message)) (is .sends .fit x i) in
+      let from = bit-faulty s (is .header) (is .read) (x .from) (t .from) in
       let most = sized-most (is .header .n) (is .whole .nodes) in
+      let to : x .to < is .header .n = t .node in
       record {
-        round-least = leb-true 1 (x .round) (a .0);
-        round-most = omega (arith, leb-true (x .round) (is .header .f + 1) (b .0), same-f);
+        round-least = t .early;
+        round-most = omega (arith, t .late, same-f);
         from-faulty = from .1;
         from-node = faulty-node (x .from) (from .1);
         to-node = omega (arith, same-n);
-        to-correct = bit-correct s (is .header) (is .read) (x .to) (omega arith) (not-true (faultyBit (is .header) (x .to)) (e .0));
-        size-least = leb-true 1 (length (x .message)) (g .0);
-        size-most = leb-true (length (x .message)) messageMost (g .1);
+        to-correct = bit-correct s (is .header) (is .read) (x .to) (omega arith) (t .to);
+        size-least = t .least;
+        size-most = t .most;
         bytes = sends-bytes s x i;
       }
 

@@ -22,12 +22,13 @@ pub header-is : (s : List ℕ) (h : Header) → headedOf (linesOf s) ≡ Read h 
 unfolding headerAs
 header-is s h e = ap headerAs e
 
-pub no-header : (s : List ℕ) (k : ℕ) → headedOf (linesOf s) ≡ BadAt k → headerOf s ≡ noHeader
+no-header : (s : List ℕ) (k : ℕ) → headedOf (linesOf s) ≡ BadAt k → headerOf s ≡ noHeader
 unfolding headerAs
 no-header s k e = ap headerAs e
 
 -- the sends follow the header and the tray lines
-pub sends-after : (s t u : List ℕ) (h : Header) → headedOf (linesOf s) ≡ Read h → linesOf t ≡ drop headerSize (linesOf s) → linesOf u ≡ drop (h .n) (linesOf t)
+pub sends-after : (s t u : List ℕ) (h : Header) → headedOf (linesOf s) ≡ Read h → linesOf t ≡ drop headerSize (linesOf s)
+    → linesOf u ≡ drop (h .n) (linesOf t)
     → sendsOf s ≡ sendsIn (linesOf u)
 unfolding sendsOf
 sends-after s t u h e a b =
@@ -60,13 +61,15 @@ unfolding sendsIn sendThen
 walk d [] k h = absurd (omega arith)
 walk d (l ∷ ls) k h = go (sendOf l) refl k h (λ j q. walk d ls j q)
   where
-    go : (o : Option Send) → sendOf l ≡ o → (k : ℕ) → k < length (sendThen o (sendsIn ls)) → ((j : ℕ) → j < length (sendsIn ls) → sendOf (getD ls j []) ≡ some (getD (sendsIn ls) j d))
+    go : (o : Option Send) → sendOf l ≡ o → (k : ℕ) → k < length (sendThen o (sendsIn ls)) → ((j : ℕ) → j < length (sendsIn ls)
+        → sendOf (getD ls j []) ≡ some (getD (sendsIn ls) j d))
         → sendOf (getD (l ∷ ls) k []) ≡ some (getD (sendThen o (sendsIn ls)) k d)
     go none e k h ih = absurd (omega arith)
     go (some x) e zero h ih = e
     go (some x) e (suc k) h ih = ih k (omega arith)
 
-pub send-in-line : (s : List ℕ) (k : ℕ) (d : Send) → k < length (sendsOf s) → sendOf (getD (linesOf s) (headerSize + headerOf s .n + k) []) ≡ some (getD (sendsOf s) k d)
+pub send-in-line : (s : List ℕ) (k : ℕ) (d : Send) → k < length (sendsOf s)
+    → sendOf (getD (linesOf s) (headerSize + headerOf s .n + k) []) ≡ some (getD (sendsOf s) k d)
 unfolding sendsOf
 send-in-line s k d h =
     ap sendOf (sym (getD-drop (headerSize + headerOf s .n) (linesOf s) k [])) ∙ walk d (drop (headerSize + headerOf s .n) (linesOf s)) k h

@@ -62,7 +62,8 @@ unfolding rankIn
 rank-told h none last l = absurd (omega arith)
 rank-told h (some x) last l = go (fits h x) refl l
   where
-    go : (t : Bool) → fits h x ≡ t → last < cond t (rankOf x) 0 → (y : Send) × (some x ≡ some y) × (fits h y ≡ true) × (cond (fits h x) (rankOf x) 0 ≡ rankOf y)
+    go : (t : Bool) → fits h x ≡ t → last < cond t (rankOf x) 0
+        → (y : Send) × (some x ≡ some y) × (fits h y ≡ true) × (cond (fits h x) (rankOf x) 0 ≡ rankOf y)
     go true f q = (x, refl, f, rw f refl)
     go false f q = absurd (omega arith)
 
@@ -77,7 +78,8 @@ pub record Sends (h : Header) (last : ℕ) (xs : List Send) (n f : ℕ) : Type 0
 no-more : (h : Header) (last n f : ℕ) → h .n ≡ n → h .f ≡ f → Sends h last [] n f
 no-more h last n f a b = record { nodes = a; faults = b; fit = λ x i. absurd i; order = refl }
 
-one-more : (h : Header) (last n f : ℕ) (x : Send) (xs : List Send) → last < rankOf x → fits h x ≡ true → Sends h (rankOf x) xs n f → Sends h last (x ∷ xs) n f
+one-more : (h : Header) (last n f : ℕ) (x : Send) (xs : List Send) → last < rankOf x → fits h x ≡ true → Sends h (rankOf x) xs n f
+    → Sends h last (x ∷ xs) n f
 one-more h last n f x xs l q r =
     record { nodes = r .nodes; faults = r .faults; fit = each; order = rw (lt-ltb last (rankOf x) l) (r .order) }
   where
@@ -90,11 +92,9 @@ unfolding formSends
 sends-told h k last [] n f e = absurd (bad-good e)
 sends-told h k last (l ∷ ls) n f e = go (isEnd l) refl e (λ a b q. sends-told h a b ls n f q)
   where
-    rank : ℕ
-    rank = rankIn h (sendOf l)
-
     done : (t : Bool) → isEnd l ≡ true → cond t (Good (h .n) (h .f)) (Bad (k + 1)) ≡ Good n f → Sends h last (sendsIn (l ∷ ls)) n f
-    done true a q = let g = good-is q in subst (λ (xs : List Send). Sends h last xs n f) (sym (sends-none l ls (end-no-send l a))) (no-more h last n f (g .0) (g .1))
+    done true a q = let g = good-is q in subst (λ (xs : List Send). Sends h last xs n f) (sym (sends-none l ls (end-no-send l a)))
+        (no-more h last n f (g .0) (g .1))
     done false a q = absurd (bad-good q)
 
     next : (t : Bool) → ltb last (rankIn h (sendOf l)) ≡ t → cond t (formSends h (k + 1) (rankIn h (sendOf l)) ls) (Bad k) ≡ Good n f
@@ -103,17 +103,20 @@ sends-told h k last (l ∷ ls) n f e = go (isEnd l) refl e (λ a b q. sends-told
     next true b q ih =
         let o : last < rankIn h (sendOf l) = ltb-true last (rankIn h (sendOf l)) b in
         let r = rank-told h (sendOf l) last o in
-        let s : Sends h (rankOf (r .0)) (sendsIn ls) n f = subst (λ (m : ℕ). Sends h m (sendsIn ls) n f) (r .3) (ih (k + 1) (rankIn h (sendOf l)) q) in
+        let s : Sends h (rankOf (r .0)) (sendsIn ls) n f = subst (λ (m : ℕ). Sends h m (sendsIn ls) n f) (r .3) (ih (k + 1) (rankIn h
+        (sendOf l)) q) in
         subst (λ (xs : List Send). Sends h last xs n f) (sym (sends-some l ls (r .0) (r .1)))
         (one-more h last n f (r .0) (sendsIn ls) (subst (λ (m : ℕ). last < m) (r .3) o) (r .2) s)
 
     go : (t : Bool) → isEnd l ≡ t
-        → cond t (cond (eqb (length ls) 0) (Good (h .n) (h .f)) (Bad (k + 1))) (cond (ltb last (rankIn h (sendOf l))) (formSends h (k + 1) (rankIn h (sendOf l)) ls) (Bad k)) ≡ Good n f
+        → cond t (cond (eqb (length ls) 0) (Good (h .n) (h .f)) (Bad (k + 1))) (cond (ltb last (rankIn h (sendOf l))) (formSends h (k + 1) (rankIn h
+        (sendOf l)) ls) (Bad k)) ≡ Good n f
         → ((a b : ℕ) → formSends h a b ls ≡ Good n f → Sends h b (sendsIn ls) n f) → Sends h last (sendsIn (l ∷ ls)) n f
     go true a q ih = done (eqb (length ls) 0) a q
     go false a q ih = next (ltb last (rankIn h (sendOf l))) refl q ih
 
-trays-told : (h : Header) (k left : ℕ) (ls : List (List ℕ)) (n f : ℕ) → formTrays h k left ls ≡ Good n f → (j : ℕ) × (formSends h j 0 (drop left ls) ≡ Good n f)
+trays-told : (h : Header) (k left : ℕ) (ls : List (List ℕ)) (n f : ℕ) → formTrays h k left ls ≡ Good n f
+    → (j : ℕ) × (formSends h j 0 (drop left ls) ≡ Good n f)
 unfolding formTrays
 trays-told h k zero ls n f e = (k, e)
 trays-told h k (suc left) ls n f e = go (isTray (getD ls 0 [])) e (λ q. trays-told h (k + 1) left (drop 1 ls) n f q)

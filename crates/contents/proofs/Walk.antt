@@ -67,7 +67,7 @@ module _ (answer : Sending) (left : ℕ) (all : List (List ℕ)) (t : answer ≡
 
 -- ---- the message of the one with these numbers
 
-pub hex-empty : hexOf [] ≡ []
+hex-empty : hexOf [] ≡ []
 unfolding hexOf isHex pairsOf digitsBelow
 hex-empty = refl
 
@@ -79,7 +79,8 @@ module _ (r from to : ℕ) (answer : List ℕ) (all : List (List ℕ)) (t : answ
   module _ (l : List ℕ) (ls : List (List ℕ)) (e : all ≡ l ∷ ls) where
     pub message-none : sendOf l ≡ none → hexOf [] ≡ answer
     unfolding messageIn
-    message-none q = hex-empty ∙ sym (t ∙ ap (λ (y : List (List ℕ)). messageIn r from to (sendsIn y)) e ∙ ap (messageIn r from to) (sends-none l ls q))
+    message-none q = hex-empty ∙ sym (t ∙ ap (λ (y : List (List ℕ)). messageIn r from to (sendsIn y)) e
+        ∙ ap (messageIn r from to) (sends-none l ls q))
 
     module _ (x : Send) (q : sendOf l ≡ some x) where
       message-is : answer ≡ messageIn r from to (x ∷ sendsIn ls)

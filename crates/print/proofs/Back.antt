@@ -33,7 +33,8 @@ unfolding digitsBelow
 digits-append [] y e h = simp (lt-ltb _ _ h)
 digits-append (x ∷ xs) y e h = go (ltb (digitOf x) 10) e (λ q. digits-append xs y q h)
   where
-    go : (t : Bool) → (t && digitsBelow 10 xs) ≡ true → (digitsBelow 10 xs ≡ true → digitsBelow 10 (xs ++ (y ∷ [])) ≡ true) → (t && digitsBelow 10 (xs ++ (y ∷ []))) ≡ true
+    go : (t : Bool) → (t && digitsBelow 10 xs) ≡ true → (digitsBelow 10 xs ≡ true → digitsBelow 10 (xs ++ (y ∷ [])) ≡ true)
+        → (t && digitsBelow 10 (xs ++ (y ∷ []))) ≡ true
     go true q f = f q
     go false q f = q
 
@@ -68,7 +69,8 @@ fine-more v ds h g =
       high = λ z. omega (arith, p, f);
     }
 
-fine-case : (d v : ℕ) (t : Bool) → ltb v 10 ≡ t → v < suc d → ((w : ℕ) → w < d → Digits w (digitsIn d w)) → Digits v (cond t ((48 + v) ∷ []) (digitsIn d (v / 10) ++ ((48 + v % 10) ∷ [])))
+fine-case : (d v : ℕ) (t : Bool) → ltb v 10 ≡ t → v < suc d → ((w : ℕ) → w < d → Digits w (digitsIn d w))
+    → Digits v (cond t ((48 + v) ∷ []) (digitsIn d (v / 10) ++ ((48 + v % 10) ∷ [])))
 fine-case d v true e h ih = fine-small v (ltb-true _ _ e)
 fine-case d v false e h ih = let l : 10 ≤ v = ltb-false _ _ e in fine-more v (digitsIn d (v / 10)) l (ih (v / 10) (omega arith))
 
@@ -131,9 +133,6 @@ module _ (v most : ℕ) (h : v ≤ most) (t : List ℕ) where
 pub entry-back : (x : ℕ) → x < 2 ^ 64 → entryIn (entryText x) ≡ Value x
 unfolding entryIn entryAs
 entry-back x h =
-    let m : ℕ = x / 2 ^ 48 in
-    let i : ℕ = x / 2 ^ 32 % 2 ^ 16 in
-    let w : ℕ = x % 2 ^ 32 in
     let a = front-back (x / 2 ^ 48) halfMost (omega arith) (lowText x) in
     let r = rest-back (x / 2 ^ 48) halfMost (omega arith) (lowText x) in
     let b : fieldOf dot halfMost (past dot (entryText x)) ≡ Value (x / 2 ^ 32 % 2 ^ 16) =

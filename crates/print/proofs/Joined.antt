@@ -10,7 +10,8 @@ use Rattle.text.specs.Put.{Put}
 use Rattle.text.proofs.Written.{put-done, put-written}
 use Rattle.print.proofs.Printing.{both-length, both-onto, left-fits, part-room}
 
-pub put-both : (v w out last back : List ℕ) (a b : ℕ) → length (v ++ w) ≤ length out → Put v out a last → Put w (take (length last - a) (drop a last)) b back
+pub put-both : (v w out last back : List ℕ) (a b : ℕ) → length (v ++ w) ≤ length out → Put v out a last
+    → Put w (take (length last - a) (drop a last)) b back
     → Put (v ++ w) out (a + b) (putMid a (length last - a) last back)
 put-both v w out last back a b h p q =
     let first = put-written v out last a (left-fits v w (length out) h) p in

@@ -13,7 +13,8 @@ use Rattle.print.specs.Texts.{decimalOf, entryText, itemText, lineText, 
 use Rattle.print.specs.declared.Items.the-variants.{Entries, Nodes}
 use Rattle.print.proofs.Printing.{small-length, step-length}
 
-bound-case : (k v : ℕ) (t : Bool) → ltb v 10 ≡ t → v < 10 ^ suc (suc k) → (v / 10 < 10 ^ suc k → length (decimalOf (v / 10)) ≤ suc k) → length (decimalOf v) ≤ suc (suc k)
+bound-case : (k v : ℕ) (t : Bool) → ltb v 10 ≡ t → v < 10 ^ suc (suc k) → (v / 10 < 10 ^ suc k → length (decimalOf (v / 10)) ≤ suc k)
+    → length (decimalOf v) ≤ suc (suc k)
 bound-case k v true e h ih = omega (arith, small-length v (ltb-true _ _ e))
 bound-case k v false e h ih =
     let l : 10 ≤ v = ltb-false _ _ e in
@@ -25,10 +26,9 @@ pub decimal-bound : (k v : ℕ) → v < 10 ^ suc k → length (decimalOf v) ≤ 
 decimal-bound zero v h = omega (arith, small-length v (omega arith))
 decimal-bound (suc k) v h = bound-case k v (ltb v 10) refl h (λ z. decimal-bound k (v / 10) z)
 
-pub entry-length : (x : ℕ) → length (entryText x) ≡ length (decimalOf (x / 2 ^ 48)) + 1 + (length (decimalOf (x / 2 ^ 32 % 2 ^ 16)) + 1 + length (decimalOf (x % 2 ^ 32)))
+pub entry-length : (x : ℕ) → length (entryText x) ≡ length (decimalOf (x / 2 ^ 48)) + 1 + (length (decimalOf (x / 2 ^ 32 % 2 ^ 16)) + 1 + length
+    (decimalOf (x % 2 ^ 32)))
 entry-length x =
-    let m : List ℕ = decimalOf (x / 2 ^ 48) in
-    let i : List ℕ = decimalOf (x / 2 ^ 32 % 2 ^ 16) in
     omega (
       arith,
       length-append (decimalOf (x / 2 ^ 48) ++ (dot ∷ [])) (lowText x),
@@ -52,7 +52,12 @@ line-length key value = omega (arith, length-append key (value ++ (lf ∷ [])), 
 more-entries : (xs : List ℕ) → ((k : ℕ) → getD xs k 0 < 2 ^ 64) → length (moreText Entries xs) ≤ 23 * length xs
 unfolding moreText itemText
 more-entries [] h = omega arith
-more-entries (x ∷ xs) h = omega (arith, length-append (comma ∷ entryText x) (moreText Entries xs), entry-most x (h 0), more-entries xs (λ k. h (suc k)))
+more-entries (x ∷ xs) h = omega (
+  arith,
+  length-append (comma ∷ entryText x) (moreText Entries xs),
+  entry-most x (h 0),
+  more-entries xs (λ k. h (suc k)),
+)
 
 pub entries-most : (xs : List ℕ) → ((k : ℕ) → getD xs k 0 < 2 ^ 64) → length (listText Entries xs) ≤ 23 * length xs
 unfolding listText itemText

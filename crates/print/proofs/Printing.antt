@@ -52,7 +52,8 @@ step-length v h = ap length (decimal-step v h) ∙ length-append (decimalOf (v /
 -- ---- over the front
 
 -- one byte more
-pub onto-byte : (w out last : List ℕ) (k b : ℕ) → k ≡ length w → last ≡ onto w out → length w + 1 ≤ length out → set last k b ≡ onto (w ++ (b ∷ [])) out
+pub onto-byte : (w out last : List ℕ) (k b : ℕ) → k ≡ length w → last ≡ onto w out → length w + 1 ≤ length out
+    → set last k b ≡ onto (w ++ (b ∷ [])) out
 onto-byte w out last k b e f h =
     let l : length w < length out = omega arith in
     let n : suc (length w) ≡ length (w ++ (b ∷ [])) = omega (arith, length-append w (b ∷ [])) in
@@ -108,7 +109,8 @@ module _ (v w out last : List ℕ) (r : ℕ) (h : length (v ++ w) ≤ length out
 
 -- ---- bytes that are copied
 
-pub copy-turn : (s out last : List ℕ) (i : ℕ) → i < length s → length s ≤ length out → last ≡ onto (take i s) out → set last i (getD s i 0) ≡ onto (take (i + 1) s) out
+pub copy-turn : (s out last : List ℕ) (i : ℕ) → i < length s → length s ≤ length out → last ≡ onto (take i s) out
+    → set last i (getD s i 0) ≡ onto (take (i + 1) s) out
 copy-turn s out last i h l e =
     let q : length (take i s) ≡ i = length-take-le i s (omega arith) in
     onto-byte (take i s) out last i (getD s i 0) (sym q) e (omega (arith, q))
@@ -124,7 +126,8 @@ unfolding listText
 list-none kind [] h = refl
 list-none kind (x ∷ xs) h = absurd (omega arith)
 
-pub list-some : (kind : Items) (xs : List ℕ) → (length xs ≡ 0 → ⊥) → listText kind xs ≡ itemText kind (getD xs 0 0) ++ moreText kind (take (length xs - 1) (drop 1 xs))
+pub list-some : (kind : Items) (xs : List ℕ) → (length xs ≡ 0 → ⊥)
+    → listText kind xs ≡ itemText kind (getD xs 0 0) ++ moreText kind (take (length xs - 1) (drop 1 xs))
 unfolding listText
 list-some kind [] h = absurd (h refl)
 list-some kind (x ∷ xs) h = ap (λ (t : List ℕ). itemText kind x ++ moreText kind t) (sym (rest-of (x ∷ xs) 1))
@@ -137,7 +140,8 @@ more-append kind (x ∷ xs) ys =
     ∙ sym (append-assoc (comma ∷ itemText kind x) (moreText kind xs) (moreText kind ys))
 
 -- one item more
-pub more-turn : (kind : Items) (xs : List ℕ) (i : ℕ) → i < length xs → moreText kind (take (i + 1) xs) ≡ moreText kind (take i xs) ++ (comma ∷ itemText kind (getD xs i 0))
+pub more-turn : (kind : Items) (xs : List ℕ) (i : ℕ) → i < length xs
+    → moreText kind (take (i + 1) xs) ≡ moreText kind (take i xs) ++ (comma ∷ itemText kind (getD xs i 0))
 unfolding moreText
 more-turn kind xs i l =
     ap (λ (j : ℕ). moreText kind (take j xs)) (add-one i) ∙ ap (moreText kind) (take-suc xs i 0 l) ∙ more-append kind (take i xs) (getD xs i 0 ∷ [])
@@ -157,17 +161,25 @@ more-part kind xs i =
     )
 
 -- where there is room for all, there is room for one item more
-pub more-room : (kind : Items) (xs : List ℕ) (i n : ℕ) → length (moreText kind xs) ≤ n → i < length xs → length (moreText kind (take i xs) ++ (comma ∷ itemText kind (getD xs i 0))) ≤ n
+pub more-room : (kind : Items) (xs : List ℕ) (i n : ℕ) → length (moreText kind xs) ≤ n → i < length xs
+    → length (moreText kind (take i xs) ++ (comma ∷ itemText kind (getD xs i 0))) ≤ n
 more-room kind xs i n h l = omega (arith, ap length (more-turn kind xs i l), more-part kind xs (i + 1))
 
-pub more-length : (kind : Items) (xs : List ℕ) (i : ℕ) → i < length xs → length (moreText kind (take (i + 1) xs)) ≡ length (moreText kind (take i xs)) + (1 + length (itemText kind (getD xs i 0)))
-more-length kind xs i l = omega (arith, ap length (more-turn kind xs i l), length-append (moreText kind (take i xs)) (comma ∷ itemText kind (getD xs i 0)))
+pub more-length : (kind : Items) (xs : List ℕ) (i : ℕ) → i < length xs
+    → length (moreText kind (take (i + 1) xs)) ≡ length (moreText kind (take i xs)) + (1 + length (itemText kind (getD xs i 0)))
+more-length kind xs i l = omega (
+  arith,
+  ap length (more-turn kind xs i l),
+  length-append (moreText kind (take i xs)) (comma ∷ itemText kind (getD xs i 0)),
+)
 
 module _ (kind : Items) (xs : List ℕ) where
-  pub list-length : (length xs ≡ 0 → ⊥) → length (listText kind xs) ≡ length (itemText kind (getD xs 0 0)) + length (moreText kind (take (length xs - 1) (drop 1 xs)))
+  pub list-length : (length xs ≡ 0 → ⊥) → length (listText kind xs) ≡ length (itemText kind (getD xs 0 0)) + length (moreText kind (take
+      (length xs - 1) (drop 1 xs)))
   list-length h = ap length (list-some kind xs h) ∙ length-append (itemText kind (getD xs 0 0)) (moreText kind (take (length xs - 1) (drop 1 xs)))
 
-  pub list-room : (n : ℕ) → (length xs ≡ 0 → ⊥) → length (listText kind xs) ≤ n → length (itemText kind (getD xs 0 0) ++ moreText kind (take (length xs - 1) (drop 1 xs))) ≤ n
+  pub list-room : (n : ℕ) → (length xs ≡ 0 → ⊥) → length (listText kind xs) ≤ n
+      → length (itemText kind (getD xs 0 0) ++ moreText kind (take (length xs - 1) (drop 1 xs))) ≤ n
   list-room n h l = omega (arith, ap length (list-some kind xs h))
 
   -- whether all fits is whether the others fit behind the first
@@ -177,5 +189,13 @@ module _ (kind : Items) (xs : List ℕ) where
     where
       go : (b : Bool) → leb (length (moreText kind (take (length xs - 1) (drop 1 xs)))) (room - first) ≡ b
           → leb (length (moreText kind (take (length xs - 1) (drop 1 xs)))) (room - first) ≡ leb (length (listText kind xs)) room
-      go true b = b ∙ sym (le-leb (length (listText kind xs)) room (omega (arith, leb-true (length (moreText kind (take (length xs - 1) (drop 1 xs)))) (room - first) b, list-length h)))
-      go false b = b ∙ sym (lt-leb (length (listText kind xs)) room (omega (arith, leb-false (length (moreText kind (take (length xs - 1) (drop 1 xs)))) (room - first) b, list-length h)))
+      go true b = b ∙ sym (le-leb (length (listText kind xs)) room (omega (
+        arith,
+        leb-true (length (moreText kind (take (length xs - 1) (drop 1 xs)))) (room - first) b,
+        list-length h,
+      )))
+      go false b = b ∙ sym (lt-leb (length (listText kind xs)) room (omega (
+        arith,
+        leb-false (length (moreText kind (take (length xs - 1) (drop 1 xs)))) (room - first) b,
+        list-length h,
+      )))

@@ -1,14 +1,15 @@
 -- Sends: their numbers one after the other, the tests in their order, their rank.
 use Prim.Native.Nat.{_+_, _-_, _<_, _^_, _≤_, ℕ}
-use mathlib.Core.Bool.{Bool, and-false, cond, false, true}
+use mathlib.Core.Bool.{Bool, _&&_, and-false, cond, false, not, true}
 use mathlib.Core.List.{List}
 use mathlib.Core.Option.{Option, none, some}
 use mathlib.Core.Path.{_∙_, _≡_, ap, refl, sym}
 use native.Mathlib.Omega.{arith}
-use borrow.Author.Tests.{le-leb, le-ltb, lt-leb, lt-ltb, ne-eqb}
-use lib.Dec.{leb}
+use borrow.Author.Tests.{le-leb, le-ltb, leb-true, lt-leb, lt-ltb, ltb-true, ne-eqb, not-true}
+use lib.Dec.{leb, ltb}
 use lib.ListN.{length}
 use Rattle.laws.proofs.Bits.{low-bits}
+use Rattle.laws.proofs.Tests.{both}
 use Rattle.rules.specs.Sizes.{nodesMost}
 use Rattle.wire.specs.Sizes.{messageMost}
 use Rattle.text.specs.Hex.{hexOf}
@@ -100,7 +101,8 @@ sent-told l r i j e = go (keyed sendKey l) refl e
     go : (t : Bool) → keyed sendKey l ≡ t → Sent r i j ≡ sendingAs (cond t (sendIn (valueOf sendKey l)) none) → Told l r i j
     go false k q = absurd (no-send q)
     go true k q =
-        let a = as-told (fieldOf comma wordMost v) (fieldOf comma wordMost (past comma v)) (fieldOf comma wordMost (past comma (past comma v))) (messageText v) r i j q in
+        let a = as-told (fieldOf comma wordMost v) (fieldOf comma wordMost (past comma v)) (fieldOf comma wordMost (past comma (past comma v)))
+        (messageText v) r i j q in
         record {
           is = rw (k, a .0, a .1, a .2) refl;
           round = field-small comma wordMost v r (sym (a .0));
@@ -143,9 +145,45 @@ module _ (h : Header) (r i j size : ℕ) where
   unfolding fitting
   too-short l = simp (lt-leb _ _ l, and-false)
 
-  pub by-size : 1 ≤ r → r - 1 ≤ h .f → faultyBit h i ≡ true → j < h .n → faultyBit h j ≡ false → 1 ≤ size → fitting h r i j size ≡ leb size messageMost
+  pub by-size : 1 ≤ r → r - 1 ≤ h .f → faultyBit h i ≡ true → j < h .n → faultyBit h j ≡ false → 1 ≤ size
+      → fitting h r i j size ≡ leb size messageMost
   unfolding fitting
   by-size a b d e g l = let b′ : r ≤ h .f + 1 = omega arith in simp (le-leb _ _ a, le-leb _ _ b′, d, lt-ltb _ _ e, g, le-leb _ _ l)
+
+-- what the tests tell
+pub record Fitting (h : Header) (r i j size : ℕ) : Type 0 where
+  pub early : 1 ≤ r
+  pub late : r ≤ h .f + 1
+  pub from : faultyBit h i ≡ true
+  pub node : j < h .n
+  pub to : faultyBit h j ≡ false
+  pub least : 1 ≤ size
+  pub most : size ≤ messageMost
+
+each : (a b c d e f g : Bool) → (a && (b && (c && (d && (e && (f && g)))))) ≡ true
+    → (a ≡ true) × (b ≡ true) × (c ≡ true) × (d ≡ true) × (e ≡ true) × (f ≡ true) × (g ≡ true)
+each a b c d e f g h =
+    let p = both a (b && (c && (d && (e && (f && g))))) h in
+    let q = both b (c && (d && (e && (f && g)))) (p .1) in
+    let r = both c (d && (e && (f && g))) (q .1) in
+    let s = both d (e && (f && g)) (r .1) in
+    let t = both e (f && g) (s .1) in
+    let u = both f g (t .1) in
+    (p .0, q .0, r .0, s .0, t .0, u .0, u .1)
+
+pub fitting-told : (h : Header) (r i j size : ℕ) → fitting h r i j size ≡ true → Fitting h r i j size
+unfolding fitting
+fitting-told h r i j size e =
+    let t = each (leb 1 r) (leb r (h .f + 1)) (faultyBit h i) (ltb j (h .n)) (not (faultyBit h j)) (leb 1 size) (leb size messageMost) e in
+    record {
+      early = leb-true 1 r (t .0);
+      late = leb-true r (h .f + 1) (t .1);
+      from = t .2;
+      node = ltb-true j (h .n) (t .3);
+      to = not-true (faultyBit h j) (t .4);
+      least = leb-true 1 size (t .5);
+      most = leb-true size messageMost (t .6);
+    }
 
 -- ---- ranks
 

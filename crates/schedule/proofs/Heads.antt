@@ -81,7 +81,8 @@ module _ (k : ℕ) (h : Header) (o : Option (List ℕ)) (L : Listed) (e : L ≡ 
         let q : h .f < length (take (L .count) (L .items)) = omega (arith, faulty-size) in
         ap (withFaulty k h) (listed-some o L e g) ∙ simp (lt-leb _ _ q)
 
-    pub faulty-few : (m : ℕ) → L .count ≤ h .f → m ≡ maskIn (take (L .count) (L .items)) → withFaulty k h o ≡ Read (record { n = h .n; f = h .f; faulty = m })
+    pub faulty-few : (m : ℕ) → L .count ≤ h .f → m ≡ maskIn (take (L .count) (L .items))
+        → withFaulty k h o ≡ Read (record { n = h .n; f = h .f; faulty = m })
     unfolding withFaulty
     faulty-few m l q =
         let b : length (take (L .count) (L .items)) ≤ h .f = omega (arith, faulty-size) in
@@ -99,11 +100,11 @@ module _ (t : ℕ → Bool) (j mask : ℕ) (b : Bool) (h : j < nodesMost) (m : m
 
 -- ---- one line after the other
 
-pub then-bad : (x : Headed) (k : ℕ) (g : Header → Headed) → x ≡ BadAt k → andThen x g ≡ BadAt k
+then-bad : (x : Headed) (k : ℕ) (g : Header → Headed) → x ≡ BadAt k → andThen x g ≡ BadAt k
 unfolding andThen
 then-bad x k g e = simp e
 
-pub then-good : (x : Headed) (h : Header) (g : Header → Headed) → x ≡ Read h → andThen x g ≡ g h
+then-good : (x : Headed) (h : Header) (g : Header → Headed) → x ≡ Read h → andThen x g ≡ g h
 unfolding andThen
 then-good x h g e = simp e
 
@@ -112,14 +113,17 @@ module _ (i k : ℕ) (h : Header) (line : List ℕ) (ls rest : List (List ℕ)) 
   head-is : headFrom (drop i headerKeys) k h ls ≡ andThen (withLine key k h line) (λ (x : Header). headFrom (drop (i + 1) headerKeys) (k + 1) x rest)
   unfolding headFrom
   head-is =
-      ap (λ (ks : List Key). headFrom ks k h ls) (drop-cons headerKeys i Faulty l ∙ ap (λ (j : ℕ). getD headerKeys i Faulty ∷ drop j headerKeys) (sym (add-one i)))
-      ∙ ap₂ (λ (q : Key) (m : List ℕ). andThen (withLine q k h m) (λ (x : Header). headFrom (drop (i + 1) headerKeys) (k + 1) x (drop 1 ls))) (sym ke) (sym le)
+      ap (λ (ks : List Key). headFrom ks k h ls) (drop-cons headerKeys i Faulty l
+      ∙ ap (λ (j : ℕ). getD headerKeys i Faulty ∷ drop j headerKeys) (sym (add-one i)))
+      ∙ ap₂ (λ (q : Key) (m : List ℕ). andThen (withLine q k h m) (λ (x : Header). headFrom (drop (i + 1) headerKeys) (k + 1) x (drop 1 ls)))
+      (sym ke) (sym le)
       ∙ ap (λ (m : List (List ℕ)). andThen (withLine key k h line) (λ (x : Header). headFrom (drop (i + 1) headerKeys) (k + 1) x m)) re
 
   pub head-bad : (a : ℕ) → withLine key k h line ≡ BadAt a → headFrom (drop i headerKeys) k h ls ≡ BadAt a
   head-bad a e = head-is ∙ then-bad (withLine key k h line) a (λ (x : Header). headFrom (drop (i + 1) headerKeys) (k + 1) x rest) e
 
-  pub head-good : (x : Header) → withLine key k h line ≡ Read x → headFrom (drop i headerKeys) k h ls ≡ headFrom (drop (i + 1) headerKeys) (k + 1) x rest
+  pub head-good : (x : Header) → withLine key k h line ≡ Read x
+      → headFrom (drop i headerKeys) k h ls ≡ headFrom (drop (i + 1) headerKeys) (k + 1) x rest
   head-good x e = head-is ∙ then-good (withLine key k h line) x (λ (y : Header). headFrom (drop (i + 1) headerKeys) (k + 1) y rest) e
 
 pub head-done : (i k : ℕ) (h : Header) (ls : List (List ℕ)) → headerSize ≤ i → headFrom (drop i headerKeys) k h ls ≡ Read h
@@ -153,7 +157,8 @@ unfolding withFaults
 faults-told k h y NoNumber e = absurd (bad-read e)
 faults-told k h y (Value f) e = go (ltb (2 * f) (h .n)) refl e
   where
-    go : (t : Bool) → ltb (2 * f) (h .n) ≡ t → cond t (Read (record { n = h .n; f = f; faulty = h .faulty })) (BadAt k) ≡ Read y → (y .n ≡ h .n) × (2 * y .f < y .n)
+    go : (t : Bool) → ltb (2 * f) (h .n) ≡ t → cond t (Read (record { n = h .n; f = f; faulty = h .faulty })) (BadAt k) ≡ Read y
+        → (y .n ≡ h .n) × (2 * y .f < y .n)
     go true s q =
         let a : h .n ≡ y .n = ap (λ (z : Header). z .n) (read-is q) in
         let b : f ≡ y .f = ap (λ (z : Header). z .f) (read-is q) in

@@ -24,9 +24,11 @@ use Rattle.text.specs.declared.Number.the-variants.{NoNumber, Value}
 
 -- ---- the parts between commas
 
-split-case : (c b : ℕ) (s : List ℕ) (t : Bool) → split c s ≡ take (placeOf c s) s ∷ (cond (ltb (placeOf c s) (length s)) (split c (drop (placeOf c s + 1) s)) [])
+split-case : (c b : ℕ) (s : List ℕ) (t : Bool) → split c s ≡ take (placeOf c s) s ∷ (cond (ltb (placeOf c s) (length s)) (split c (drop
+    (placeOf c s + 1) s)) [])
     → cond t ([] ∷ split c s) (ahead b (split c s))
-    ≡ take (cond t 0 (suc (placeOf c s))) (b ∷ s) ∷ (cond (ltb (cond t 0 (suc (placeOf c s))) (suc (length s))) (split c (drop (cond t 0 (suc (placeOf c s)) + 1) (b ∷ s))) [])
+    ≡ take (cond t 0 (suc (placeOf c s))) (b ∷ s) ∷ (cond (ltb (cond t 0 (suc (placeOf c s))) (suc (length s))) (split c (drop (cond t 0 (suc
+    (placeOf c s)) + 1) (b ∷ s))) [])
 unfolding ahead
 split-case c b s true e = let o : 0 < suc (length s) = omega arith in simp (lt-ltb 0 (suc (length s)) o)
 split-case c b s false e =
@@ -44,19 +46,19 @@ split-is c [] = refl
 split-is c (b ∷ s) = split-case c b s (eqb b c) (split-is c s)
 
 module _ (c k : ℕ) (s : List ℕ) (e : k ≡ placeOf c s) where
-  pub split-more : k < length s → split c s ≡ take k s ∷ split c (drop (k + 1) s)
+  split-more : k < length s → split c s ≡ take k s ∷ split c (drop (k + 1) s)
   split-more h =
       let o : placeOf c s < length s = omega arith in
       split-is c s ∙ simp (lt-ltb _ _ o) (ap (λ (j : ℕ). take j s ∷ split c (drop (j + 1) s)) (sym e))
 
-  pub split-last : length s ≤ k → split c s ≡ take k s ∷ []
+  split-last : length s ≤ k → split c s ≡ take k s ∷ []
   split-last h =
       let o : length s ≤ placeOf c s = omega arith in
       split-is c s ∙ simp (le-ltb _ _ o) (ap (λ (j : ℕ). take j s ∷ []) (sym e))
 
 -- ---- ascending
 
-abbrev pub lastFrom : ℕ → List ℕ → ℕ
+abbrev lastFrom : ℕ → List ℕ → ℕ
 lastFrom d [] = d
 lastFrom d (x ∷ xs) = lastFrom x xs
 
@@ -64,13 +66,17 @@ and-assoc : (a b c : Bool) → (a && (b && c)) ≡ ((a && b) && c)
 and-assoc true b c = refl
 and-assoc false b c = refl
 
-from-seam : (d : ℕ) (xs : List ℕ) (x : ℕ) (ys : List ℕ) → ascendsFrom d (xs ++ (x ∷ ys)) ≡ (ascendsFrom d xs && (ltb (lastFrom d xs) x && ascendsFrom x ys))
+from-seam : (d : ℕ) (xs : List ℕ) (x : ℕ) (ys : List ℕ) → ascendsFrom d (xs ++ (x ∷ ys)) ≡ (ascendsFrom d xs && (ltb
+    (lastFrom d xs) x && ascendsFrom x ys))
 from-seam d [] x ys = refl
-from-seam d (y ∷ xs) x ys = ap (λ (t : Bool). ltb d y && t) (from-seam y xs x ys) ∙ and-assoc (ltb d y) (ascendsFrom y xs) (ltb (lastFrom y xs) x && ascendsFrom x ys)
+from-seam d (y ∷ xs) x ys = ap (λ (t : Bool). ltb d y && t) (from-seam y xs x ys)
+    ∙ and-assoc (ltb d y) (ascendsFrom y xs) (ltb (lastFrom y xs) x && ascendsFrom x ys)
 
-seam : (xs : List ℕ) (x : ℕ) (ys : List ℕ) → ascends (xs ++ (x ∷ ys)) ≡ (ascends xs && ((eqb (length xs) 0 || ltb (lastFrom 0 xs) x) && ascendsFrom x ys))
+seam : (xs : List ℕ) (x : ℕ) (ys : List ℕ) → ascends (xs ++ (x ∷ ys)) ≡ (ascends xs && ((eqb (length xs) 0 || ltb
+    (lastFrom 0 xs) x) && ascendsFrom x ys))
 seam [] x ys = refl
-seam (y ∷ xs) x ys = from-seam y xs x ys ∙ ap (λ (t : Bool). ascendsFrom y xs && ((t || ltb (lastFrom y xs) x) && ascendsFrom x ys)) (sym (eqb·suc-zero (length xs)))
+seam (y ∷ xs) x ys = from-seam y xs x ys ∙ ap (λ (t : Bool). ascendsFrom y xs && ((t || ltb (lastFrom y xs) x) && ascendsFrom x ys)) (sym
+    (eqb·suc-zero (length xs)))
 
 last-snoc : (d : ℕ) (xs : List ℕ) (x : ℕ) → lastFrom d (xs ++ (x ∷ [])) ≡ x
 last-snoc d [] x = refl
@@ -94,11 +100,11 @@ module _ (n : ℕ) (s : List ℕ) where
 
 -- ---- the answer, once some items are read
 
-abbrev pub front : List ℕ → Option (List ℕ) → Option (List ℕ)
+abbrev front : List ℕ → Option (List ℕ) → Option (List ℕ)
 front xs none = none
 front xs (some ys) = some (xs ++ ys)
 
-pub front-none : (o : Option (List ℕ)) → front [] o ≡ o
+front-none : (o : Option (List ℕ)) → front [] o ≡ o
 front-none none = refl
 front-none (some ys) = refl
 
@@ -107,7 +113,8 @@ unfolding andItem
 front-item xs x none = refl
 front-item xs x (some ys) = ap some (sym (append-snoc xs x ys))
 
-unordered-case : (xs : List ℕ) (x : ℕ) (o : Option (List ℕ)) → (eqb (length xs) 0 || ltb (lastFrom 0 xs) x) ≡ false → checked (front xs (andItem (Value x) o)) ≡ none
+unordered-case : (xs : List ℕ) (x : ℕ) (o : Option (List ℕ)) → (eqb (length xs) 0 || ltb (lastFrom 0 xs) x) ≡ false
+    → checked (front xs (andItem (Value x) o)) ≡ none
 unfolding andItem checked isBatch
 unordered-case xs x none e = refl
 unordered-case xs x (some ys) e =
@@ -150,7 +157,8 @@ pub no-items : (kind : Kind) (s : List ℕ) → length s ≡ 0 → listOf kind s
 unfolding listOf
 no-items kind s h = simp (eq-eqb _ _ h)
 
-pub listed-is : (zs arr : List ℕ) (n : ℕ) → length zs ≡ n → arr ≡ zs ++ replicate (batchMost - n) 0 → _≡_ {A = Listed} (record { good = true; count = n; items = arr }) (listedAs (some zs))
+pub listed-is : (zs arr : List ℕ) (n : ℕ) → length zs ≡ n → arr ≡ zs ++ replicate (batchMost - n) 0
+    → _≡_ {A = Listed} (record { good = true; count = n; items = arr }) (listedAs (some zs))
 unfolding listedAs
 listed-is zs arr n e f = λ i. record { good = true; count = sym e i; items = (f ∙ ap (λ (k : ℕ). zs ++ replicate (batchMost - k) 0) (sym e)) i }
 
@@ -160,7 +168,8 @@ module _ (kind : Kind) (s items : List ℕ) (count last at : ℕ) (g : Going kin
   rest-of : Option (List ℕ)
   rest-of = cond (ltb k (length part)) (itemsOf kind (split comma (drop (k + 1) part))) (some [])
 
-  cut-case : (t : Bool) → ltb k (length part) ≡ t → itemsOf kind (split comma part) ≡ andItem (itemOf kind (take k part)) (cond t (itemsOf kind (split comma (drop (k + 1) part))) (some []))
+  cut-case : (t : Bool) → ltb k (length part) ≡ t → itemsOf kind (split comma part) ≡ andItem (itemOf kind (take k part)) (cond t (itemsOf kind
+      (split comma (drop (k + 1) part))) (some []))
   unfolding itemsOf
   cut-case true h = ap (itemsOf kind) (split-more comma k part ke (ltb-true _ _ h))
   cut-case false h = ap (itemsOf kind) (split-last comma k part ke (ltb-false _ _ h))
@@ -206,7 +215,8 @@ module _ (kind : Kind) (s items : List ℕ) (count last at : ℕ) (g : Going kin
           ∙ set-at (g .xs) 0 (replicate (batchMost - (count + 1)) 0) x count (g .size)
           ∙ sym (append-snoc (g .xs) x (replicate (batchMost - (count + 1)) 0))
 
-      pub item-last : length part ≤ k → _≡_ {A = Listed} (record { good = true; count = count + 1; items = set items count x }) (listedAs (listOf kind s))
+      pub item-last : length part ≤ k → _≡_ {A = Listed} (record { good = true; count = count + 1; items = set items count x }) (listedAs
+          (listOf kind s))
       unfolding zs rest-of checked isBatch
       item-last h =
           let l : length zs ≤ batchMost = omega (arith, zs-size) in
@@ -228,7 +238,8 @@ module _ (kind : Kind) (s items : List ℕ) (count last at : ℕ) (g : Going kin
             let n : at + (k + 1) ≡ at + k + 1 = omega arith in
             cut-value ∙ simp (lt-ltb _ _ h)
             (ap checked (front-item (g .xs) x (itemsOf kind (split comma (drop (k + 1) part))))
-            ∙ ap (λ (l : List ℕ). checked (front zs (itemsOf kind (split comma l)))) (ap (drop (k + 1)) pe ∙ drop-drop (k + 1) at s ∙ ap (λ (j : ℕ). drop j s) n));
+            ∙ ap (λ (l : List ℕ). checked (front zs (itemsOf kind (split comma l)))) (ap (drop (k + 1)) pe ∙ drop-drop (k + 1) at s
+            ∙ ap (λ (j : ℕ). drop j s) n));
       }
 
 pub items-full : (kind : Kind) (s items : List ℕ) (count last at : ℕ) → Going kind s items count last at → batchMost ≤ count → listOf kind s ≡ none
@@ -237,4 +248,5 @@ items-full kind s items count last at g h =
     let t : List ℕ = drop at s in
     let e : length (g .xs) ≡ batchMost = let a = g .size in let b = g .few in omega arith in
     g .left ∙ ap (λ (ps : List (List ℕ)). checked (front (g .xs) (itemsOf kind ps))) (split-is comma t)
-    ∙ full-case (g .xs) (itemOf kind (take (placeOf comma t) t)) (itemsOf kind (cond (ltb (placeOf comma t) (length t)) (split comma (drop (placeOf comma t + 1) t)) [])) e
+    ∙ full-case (g .xs) (itemOf kind (take (placeOf comma t) t)) (itemsOf kind (cond (ltb (placeOf comma t) (length t)) (split comma (drop
+    (placeOf comma t + 1) t)) [])) e

@@ -24,7 +24,8 @@ len-suc p l = ap (λ (t : Bool). cond t (suc p + 1) (suc l)) (leb·suc-suc (suc 
     go true = omega arith
     go false = refl
 
-one : (b : ℕ) (t : Bool) → cond t ((b ∷ []) ∷ []) (ahead b []) ≡ take (len-at (cond t 0 1) 1) (b ∷ []) ∷ linesOf (drop (len-at (cond t 0 1) 1) (b ∷ []))
+one : (b : ℕ) (t : Bool) → cond t ((b ∷ []) ∷ []) (ahead b []) ≡ take (len-at (cond t 0 1) 1) (b ∷ []) ∷ linesOf (drop (len-at (cond t 0 1) 1)
+    (b ∷ []))
 unfolding ahead linesOf
 one b true = refl
 one b false = refl
@@ -41,7 +42,7 @@ unfolding linesOf lineLen placeOf
 lines-cons b [] = one b (eqb b lf)
 lines-cons b (a ∷ s) = more b a s (placeOf lf (a ∷ s)) (length (a ∷ s)) (eqb b lf) (lines-cons a s)
 
-pub lines-none : (s : List ℕ) → length s ≡ 0 → linesOf s ≡ []
+lines-none : (s : List ℕ) → length s ≡ 0 → linesOf s ≡ []
 unfolding linesOf
 lines-none [] h = refl
 lines-none (b ∷ s) h = absurd (omega arith)
@@ -53,7 +54,7 @@ line-first [] = refl
 line-first (b ∷ s) = ap (λ (ls : List (List ℕ)). getD ls 0 []) (lines-cons b s)
 
 -- the lines after the first
-pub lines-rest : (s : List ℕ) → drop 1 (linesOf s) ≡ linesOf (drop (lineLen s) s)
+lines-rest : (s : List ℕ) → drop 1 (linesOf s) ≡ linesOf (drop (lineLen s) s)
 unfolding linesOf lineLen placeOf
 lines-rest [] = refl
 lines-rest (b ∷ s) = ap (λ (ls : List (List ℕ)). drop 1 ls) (lines-cons b s)
@@ -98,7 +99,8 @@ pub len-fits : (s : List ℕ) (at e : ℕ) → at ≤ length s → e ≡ lineLen
 len-fits s at e h ee = omega (arith, ee ∙ ap lineLen (rest-of s at), len-le (drop at s), length-drop at s)
 
 -- nor are there any before a later line
-pub lines-over : (s : List ℕ) (at i k : ℕ) → length s ≤ at → i ≤ k → linesOf (drop at s) ≡ drop i (linesOf s) → linesOf (drop at s) ≡ drop k (linesOf s)
+pub lines-over : (s : List ℕ) (at i k : ℕ) → length s ≤ at → i ≤ k → linesOf (drop at s) ≡ drop i (linesOf s)
+    → linesOf (drop at s) ≡ drop k (linesOf s)
 lines-over s at i k h l e =
     let n : linesOf (drop at s) ≡ [] = lines-none (drop at s) (omega (arith, length-drop at s)) in
     let m : length (linesOf s) ≤ i = omega (arith, ap length (sym e ∙ n), length-drop i (linesOf s)) in
@@ -137,7 +139,6 @@ module _ (s line : List ℕ) (at : ℕ) (within : at ≤ length s) (e : line ≡
 
   pub line-not-last : (length (take (length s - at) (drop at s)) ≡ length line → ⊥) → length (linesOf (drop (at + length line) s)) ≡ 0 → ⊥
   line-not-last h z =
-      let rest : List ℕ = drop (at + length line) s in
       let l = ap length (rest-of s at) in
       let f = line-fits in
       let some : 0 < length (drop (at + length line) s) = omega (arith, l, f, length-drop at s, length-drop (at + length line) s) in

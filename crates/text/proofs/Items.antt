@@ -58,7 +58,8 @@ list-told : (kind : Kind) (s xs : List ℕ) → listOf kind s ≡ some xs → (x
 unfolding listOf
 list-told kind s xs e = go (eqb (length s) 0) e
   where
-    go : (t : Bool) → cond t (some []) (checked (itemsOf kind (split comma s))) ≡ some xs → (xs ≡ []) ⊎ ((isBatch xs ≡ true) × (itemsOf kind (split comma s) ≡ some xs))
+    go : (t : Bool) → cond t (some []) (checked (itemsOf kind (split comma s))) ≡ some xs
+        → (xs ≡ []) ⊎ ((isBatch xs ≡ true) × (itemsOf kind (split comma s) ≡ some xs))
     go true q = inl (sym (some-is q))
     go false q = inr (checked-told (itemsOf kind (split comma s)) xs q)
 
@@ -71,7 +72,8 @@ module _ (key : List ℕ) (kind : Kind) (l xs : List ℕ) (e : listLine key kind
   unfolding listLine
   told = go (keyed key l) e
     where
-      go : (t : Bool) → cond t (listOf kind (valueOf key l)) none ≡ some xs → (xs ≡ []) ⊎ ((isBatch xs ≡ true) × (itemsOf kind (split comma (valueOf key l)) ≡ some xs))
+      go : (t : Bool) → cond t (listOf kind (valueOf key l)) none ≡ some xs
+          → (xs ≡ []) ⊎ ((isBatch xs ≡ true) × (itemsOf kind (split comma (valueOf key l)) ≡ some xs))
       go true q = list-told kind (valueOf key l) xs q
       go false q = absurd (none-some q)
 

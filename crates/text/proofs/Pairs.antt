@@ -105,7 +105,7 @@ pub hex-no : (s : List ℕ) → isHex s ≡ false → hexOf s ≡ []
 unfolding hexOf
 hex-no s e = simp e
 
-pub hex-yes : (s : List ℕ) → isHex s ≡ true → hexOf s ≡ pairsOf s
+hex-yes : (s : List ℕ) → isHex s ≡ true → hexOf s ≡ pairsOf s
 unfolding hexOf
 hex-yes s e = simp e
 
@@ -113,7 +113,7 @@ pub hex-digits : (s : List ℕ) → isHex s ≡ true → (length s % 2 ≡ 0) ×
 unfolding isHex
 hex-digits s e = let p = both (eqb (length s % 2) 0) (digitsBelow 16 s) e in (eqb-true (length s % 2) 0 (p .0), p .1)
 
-pub pairs-size : (s : List ℕ) → length (pairsOf s) ≡ length s / 2
+pairs-size : (s : List ℕ) → length (pairsOf s) ≡ length s / 2
 unfolding pairsOf
 pairs-size [] = refl
 pairs-size (a ∷ []) = refl
@@ -144,7 +144,8 @@ hex-bytes s i = go (isHex s) refl
     go false e = rw (hex-no s e) (omega arith)
 
 -- the pairs are written, and they are what the hex says
-pub put-hex : (s out after : List ℕ) (a : ℕ) → isHex s ≡ true → length s / 2 ≤ length out → a ≡ length (pairsOf s) → after ≡ onto (pairsOf s) out → Put (hexOf s) out a after
+pub put-hex : (s out after : List ℕ) (a : ℕ) → isHex s ≡ true → length s / 2 ≤ length out → a ≡ length (pairsOf s) → after ≡ onto (pairsOf s) out
+    → Put (hexOf s) out a after
 put-hex s out after a h l e f =
     let q = hex-yes s h in
     put-done (hexOf s) out after a (omega (arith, hex-size-yes s h)) (e ∙ ap length (sym q)) (f ∙ ap (λ (w : List ℕ). onto w out) (sym q))

@@ -30,7 +30,7 @@ module _ (c : ℕ) (s : List ℕ) (i : ℕ) where
   unfolding placeOf
   place-end h = ap (λ (t : List ℕ). i + placeOf c t) (drop-of-length-le s {i = i} h) ∙ add-zero i
 
-pub place-le : (c : ℕ) (s : List ℕ) → placeOf c s ≤ length s
+place-le : (c : ℕ) (s : List ℕ) → placeOf c s ≤ length s
 unfolding placeOf
 place-le c [] = omega arith
 place-le c (b ∷ s) = go (eqb b c) (place-le c s)

@@ -56,7 +56,10 @@ fn follows(count: usize, last: u64, x: u64) -> bool
     if count == 0 {
         return true;
     }
-    last < x
+    if x <= last {
+        return false;
+    }
+    true
 }
 
 // Ascending items by commas, or empty; at most 16.

@@ -16,7 +16,8 @@ enum-told : tie.Need-enum-told
 enum-told c = search needs
 
 returns : tie.Need-returns
-returns c = mask-is (now (c .before .before .before .before .before .args .s)) _ (sym (c .before .before .before .read-header .ensures) ∙ c .before .h .given .1)
+returns c = mask-is (now (c .before .before .before .before .before .args .s)) _ (sym (c .before .before .before .read-header .ensures)
+    ∙ c .before .h .given .1)
 
 returns-2 : tie.Need-returns-2
 returns-2 c = no-mask (now (c .before .before .before .before .args .s)) _ (sym (c .before .before .read-header .ensures) ∙ c .enum-told .given .1)

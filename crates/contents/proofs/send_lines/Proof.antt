@@ -22,10 +22,13 @@ enum-told : tie.Need-enum-told
 enum-told c = search needs
 
 returns : tie.Need-returns
-returns c = sends-after (now (c .before .before .before .before .before .before .before .args .s)) _ _ _ (sym (c .before .before .before .before .read-header .ensures) ∙ c .before .before .h .given .1) (c .before .before .before .before .before .past-lines .ensures) (c .past-lines2 .ensures)
+returns c = sends-after (now (c .before .before .before .before .before .before .before .args .s)) _ _ _ (sym
+    (c .before .before .before .before .read-header .ensures)
+    ∙ c .before .before .h .given .1) (c .before .before .before .before .before .past-lines .ensures) (c .past-lines2 .ensures)
 
 returns-2 : tie.Need-returns-2
-returns-2 c = sends-bare (now (c .before .before .before .before .before .args .s)) _ _ (sym (c .before .before .read-header .ensures) ∙ c .enum-told .given .1) (c .before .before .before .past-lines .ensures)
+returns-2 c = sends-bare (now (c .before .before .before .before .before .args .s)) _ _ (sym (c .before .before .read-header .ensures)
+    ∙ c .enum-told .given .1) (c .before .before .before .past-lines .ensures)
 
 pub send-lines-spec : {M : Type 1} → statement M
 send-lines-spec =

@@ -31,7 +31,8 @@ line-list-requires c κs = search needs
 returns : tie.Need-returns
 returns c =
     let a = c .before .before .before .before .before .before .before .args in
-    let line = tray-line (now (a .s)) _ _ _ (a .i) (c .before .before .before .before .before .past-lines .ensures) (c .before .before .before .before .past-lines2 .ensures) (c .before .before .before .first-line .ensures) in
+    let line = tray-line (now (a .s)) _ _ _ (a .i) (c .before .before .before .before .before .past-lines .ensures)
+    (c .before .before .before .before .past-lines2 .ensures) (c .before .before .before .first-line .ensures) in
     tray-is _ (c .before .line-list .result) (c .before .line-list .ensures) ∙ ap (λ (l : List ℕ). trayOf (itemsIn (listLine trayKey Entry l))) line
 
 pub tray-of-spec : {M : Type 1} → statement M

@@ -15,7 +15,9 @@ same-length : tie.Need-same-length
 same-length c = search needs
 
 returns-2 : tie.Need-returns-2
-returns-2 c = put-done (now (c .before .before .before .before .before .before .before .args .bytes)) (now (c .before .before .before .before .before .before .before .args .output)) _ _ (c .before .before .before .before .if1 .left) (c .before .before .bytes .ensures .0) (c .before .before .bytes .ensures .1)
+returns-2 c = put-done (now (c .before .before .before .before .before .before .before .args .bytes)) (now
+    (c .before .before .before .before .before .before .before .args .output)) _ _ (c .before .before .before .before .if1 .left)
+    (c .before .before .bytes .ensures .0) (c .before .before .bytes .ensures .1)
 
 pub put-bytes-spec : {M : Type 1} → statement M
 put-bytes-spec = tie.close (tie.spec returns bytes-requires same-length returns-2)

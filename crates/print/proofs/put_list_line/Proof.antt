@@ -15,7 +15,10 @@ use Rattle.print.proofs.put_list_line.Tie as tie
 returns : tie.Need-returns
 returns c =
     let a = c .before .before .before .before .args in
-    put-none (lineText (now (a .key)) (listText (a .kind) (now (a .xs)))) (now (a .output)) (omega (arith, line-length (now (a .key)) (listText (a .kind) (now (a .xs)))))
+    put-none (lineText (now (a .key)) (listText (a .kind) (now (a .xs)))) (now (a .output)) (omega (
+      arith,
+      line-length (now (a .key)) (listText (a .kind) (now (a .xs))),
+    ))
 
 sub-list-fits : tie.Need-sub-list-fits
 sub-list-fits c = search needs
@@ -29,13 +32,19 @@ list-fits-requires c κs = search needs
 returns-2 : tie.Need-returns-2
 returns-2 c =
     let a = c .before .before .before .before .before .before .args in
-    let over = leb-false (length (listText (a .kind) (now (a .xs)))) (length (now (a .output)) - length (now (a .key)) - 1) (sym (c .before .list-fits .ensures) ∙ not-true _ (c .if2 .taken)) in
-    put-none (lineText (now (a .key)) (listText (a .kind) (now (a .xs)))) (now (a .output)) (omega (arith, line-length (now (a .key)) (listText (a .kind) (now (a .xs))), over))
+    let over = leb-false (length (listText (a .kind) (now (a .xs)))) (length (now (a .output)) - length (now (a .key)) - 1) (sym
+    (c .before .list-fits .ensures) ∙ not-true _ (c .if2 .taken)) in
+    put-none (lineText (now (a .key)) (listText (a .kind) (now (a .xs)))) (now (a .output)) (omega (
+      arith,
+      line-length (now (a .key)) (listText (a .kind) (now (a .xs))),
+      over,
+    ))
 
 list-line-requires : tie.Need-list-line-requires
 list-line-requires c κs =
     let a = c .before .before .before .before .before .before .before .args in
-    let in-room = leb-true (length (listText (a .kind) (now (a .xs)))) (length (now (a .output)) - length (now (a .key)) - 1) (sym (c .before .before .list-fits .ensures) ∙ not-false _ (c .before .if2 .left)) in
+    let in-room = leb-true (length (listText (a .kind) (now (a .xs)))) (length (now (a .output)) - length (now (a .key)) - 1) (sym
+    (c .before .before .list-fits .ensures) ∙ not-false _ (c .before .if2 .left)) in
     omega (arith, line-length (now (a .key)) (listText (a .kind) (now (a .xs))), in-room)
 
 same-length : tie.Need-same-length
@@ -44,9 +53,15 @@ same-length c = search needs
 returns-3 : tie.Need-returns-3
 returns-3 c =
     let a = c .before .before .before .before .before .before .before .before .before .before .args in
-    let in-room = leb-true (length (listText (a .kind) (now (a .xs)))) (length (now (a .output)) - length (now (a .key)) - 1) (sym (c .before .before .before .before .before .list-fits .ensures) ∙ not-false _ (c .before .before .before .before .if2 .left)) in
-    let h : length (lineText (now (a .key)) (listText (a .kind) (now (a .xs)))) ≤ length (now (a .output)) = omega (arith, line-length (now (a .key)) (listText (a .kind) (now (a .xs))), in-room) in
-    put-done (lineText (now (a .key)) (listText (a .kind) (now (a .xs)))) (now (a .output)) _ _ h (c .before .before .list-line .ensures .0) (c .before .before .list-line .ensures .1)
+    let in-room = leb-true (length (listText (a .kind) (now (a .xs)))) (length (now (a .output)) - length (now (a .key)) - 1) (sym
+    (c .before .before .before .before .before .list-fits .ensures) ∙ not-false _ (c .before .before .before .before .if2 .left)) in
+    let h : length (lineText (now (a .key)) (listText (a .kind) (now (a .xs)))) ≤ length (now (a .output)) = omega (
+      arith,
+      line-length (now (a .key)) (listText (a .kind) (now (a .xs))),
+      in-room,
+    ) in
+    put-done (lineText (now (a .key)) (listText (a .kind) (now (a .xs)))) (now (a .output)) _ _ h (c .before .before .list-line .ensures .0)
+    (c .before .before .list-line .ensures .1)
 
 pub put-list-line-spec : {M : Type 1} → statement M
 put-list-line-spec =

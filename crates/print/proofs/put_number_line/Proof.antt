@@ -19,7 +19,11 @@ add-size c = search needs
 returns : tie.Need-returns
 returns c =
     let a = c .before .before .before .before .args in
-    put-none (lineText (now (a .key)) (decimalOf (a .v))) (now (a .output)) (omega (arith, line-length (now (a .key)) (decimalOf (a .v)), c .before .number-size .ensures .0))
+    put-none (lineText (now (a .key)) (decimalOf (a .v))) (now (a .output)) (omega (
+      arith,
+      line-length (now (a .key)) (decimalOf (a .v)),
+      c .before .number-size .ensures .0,
+    ))
 
 sub-if2 : tie.Need-sub-if2
 sub-if2 c = search needs
@@ -27,7 +31,11 @@ sub-if2 c = search needs
 returns-2 : tie.Need-returns-2
 returns-2 c =
     let a = c .before .before .before .before .before .args in
-    put-none (lineText (now (a .key)) (decimalOf (a .v))) (now (a .output)) (omega (arith, line-length (now (a .key)) (decimalOf (a .v)), c .before .before .number-size .ensures .0))
+    put-none (lineText (now (a .key)) (decimalOf (a .v))) (now (a .output)) (omega (
+      arith,
+      line-length (now (a .key)) (decimalOf (a .v)),
+      c .before .before .number-size .ensures .0,
+    ))
 
 number-line-requires : tie.Need-number-line-requires
 number-line-requires c κs =
@@ -40,8 +48,13 @@ same-length c = search needs
 returns-3 : tie.Need-returns-3
 returns-3 c =
     let a = c .before .before .before .before .before .before .before .before .before .args in
-    let h : length (lineText (now (a .key)) (decimalOf (a .v))) ≤ length (now (a .output)) = omega (arith, line-length (now (a .key)) (decimalOf (a .v)), c .before .before .before .before .before .before .number-size .ensures .0) in
-    put-done (lineText (now (a .key)) (decimalOf (a .v))) (now (a .output)) _ _ h (c .before .before .number-line .ensures .0) (c .before .before .number-line .ensures .1)
+    let h : length (lineText (now (a .key)) (decimalOf (a .v))) ≤ length (now (a .output)) = omega (
+      arith,
+      line-length (now (a .key)) (decimalOf (a .v)),
+      c .before .before .before .before .before .before .number-size .ensures .0,
+    ) in
+    put-done (lineText (now (a .key)) (decimalOf (a .v))) (now (a .output)) _ _ h (c .before .before .number-line .ensures .0)
+    (c .before .before .number-line .ensures .1)
 
 pub put-number-line-spec : {M : Type 1} → statement M
 put-number-line-spec =

@@ -48,8 +48,11 @@ number-returns :
     (t : ℕ) → number-lts.Need-returns (number-below t, number.Post) (number-at t) number.Post
 number-returns t c =
     let a = c .before .before .args in
-    let one = small-length (a .v) (c .if1 .taken) in
-    (sym one, onto-first (now (a .output)) (48 + a .v) (omega (arith, one, c .before .before .pre .1)) ∙ ap (λ (w : List ℕ). onto w (now (a .output))) (sym (decimal-small (a .v) (c .if1 .taken))))
+    let one = small-length (a .v) (c .if1 .taken) in (
+      sym one,
+      onto-first (now (a .output)) (48 + a .v) (omega (arith, one, c .before .before .pre .1))
+          ∙ ap (λ (w : List ℕ). onto w (now (a .output))) (sym (decimal-small (a .v) (c .if1 .taken))),
+    )
 
 number-number-requires :
     (t : ℕ) →
@@ -76,14 +79,26 @@ number-slice-write-output-2 : (t : ℕ) → number-lts.Need-slice-write-output-2
 number-slice-write-output-2 t c =
     let a = c .before .before .before .before .before .before .args in
     let k = c .before .before .number in
-    omega (arith, k .ensures .0, k .kept .0, step-length (a .v) (c .before .before .before .before .if1 .left), c .before .before .before .before .before .before .pre .1)
+    omega (
+      arith,
+      k .ensures .0,
+      k .kept .0,
+      step-length (a .v) (c .before .before .before .before .if1 .left),
+      c .before .before .before .before .before .before .pre .1,
+    )
 
 number-add-result :
     (t : ℕ) → number-lts.Need-add-result (number-below t, number.Post) (number-at t) number.Post
 number-add-result t c =
     let a = c .before .before .before .before .before .before .args in
     let k = c .before .before .number in
-    omega (arith, k .ensures .0, k .kept .0, step-length (a .v) (c .before .before .before .before .if1 .left), c .before .before .before .before .before .before .pre .1)
+    omega (
+      arith,
+      k .ensures .0,
+      k .kept .0,
+      step-length (a .v) (c .before .before .before .before .if1 .left),
+      c .before .before .before .before .before .before .pre .1,
+    )
 
 number-same-length-2 :
     (t : ℕ) →
@@ -100,7 +115,11 @@ number-returns-2 t c =
     let h : 10 ≤ a .v = c .before .before .before .before .if1 .left in
     let l = step-length (a .v) h in (
       omega (arith, k .ensures .0, l),
-      onto-byte (decimalOf (a .v / 10)) (now (a .output)) (k .last .0) (k .result) (48 + a .v % 10) (k .ensures .0) (k .ensures .1) (omega (arith, l, c .before .before .before .before .before .before .pre .1))
+      onto-byte (decimalOf (a .v / 10)) (now (a .output)) (k .last .0) (k .result) (48 + a .v % 10) (k .ensures .0) (k .ensures .1) (omega (
+        arith,
+        l,
+        c .before .before .before .before .before .before .pre .1,
+      ))
           ∙ ap (λ (w : List ℕ). onto w (now (a .output))) (sym (decimal-step (a .v) h)),
     )
 

@@ -14,7 +14,8 @@ use Rattle.print.proofs.fill.all_more.Statement.{statement}
 use Rattle.print.proofs.fill.all_more.Tie as tie
 
 abbrev Inv-loop : tie.InvT-loop
-Inv-loop output₀ kind xs at₀ i₀ output at i = (i ≤ length xs) × (length (moreText kind xs) ≤ length output₀) × (at ≡ length (moreText kind (take i xs))) × (length output ≡ length output₀) × (output ≡ onto (moreText kind (take i xs)) output₀)
+Inv-loop output₀ kind xs at₀ i₀ output at i = (i ≤ length xs) × (length (moreText kind xs) ≤ length output₀) × (at ≡ length (moreText kind
+    (take i xs))) × (length output ≡ length output₀) × (output ≡ onto (moreText kind (take i xs)) output₀)
 
 abbrev μ-loop : tie.MeasureT-loop
 μ-loop output₀ kind xs at₀ i₀ output at i = length xs - i
@@ -28,14 +29,16 @@ sub-more c =
     let a = c .before .before .before .before .args in
     let l = c .before .loop in
     let h = more-room (a .kind) (now (a .xs)) (l .i) _ (l .inv .1) (omega arith) in
-    part-start (moreText (a .kind) (take (l .i) (now (a .xs)))) (comma ∷ itemText (a .kind) (getD (now (a .xs)) (l .i) 0)) (now (a .output)) (l .output) (l .at) h (l .inv .2) (l .inv .3)
+    part-start (moreText (a .kind) (take (l .i) (now (a .xs)))) (comma ∷ itemText (a .kind) (getD (now (a .xs)) (l .i) 0)) (now (a .output))
+    (l .output) (l .at) h (l .inv .2) (l .inv .3)
 
 part-more-start : tie.Need-part-more-start Inv-loop μ-loop
 part-more-start c =
     let a = c .before .before .before .before .args in
     let l = c .before .loop in
     let h = more-room (a .kind) (now (a .xs)) (l .i) _ (l .inv .1) (omega arith) in
-    part-start (moreText (a .kind) (take (l .i) (now (a .xs)))) (comma ∷ itemText (a .kind) (getD (now (a .xs)) (l .i) 0)) (now (a .output)) (l .output) (l .at) h (l .inv .2) (l .inv .3)
+    part-start (moreText (a .kind) (take (l .i) (now (a .xs)))) (comma ∷ itemText (a .kind) (getD (now (a .xs)) (l .i) 0)) (now (a .output))
+    (l .output) (l .at) h (l .inv .2) (l .inv .3)
 
 part-more-end : tie.Need-part-more-end Inv-loop μ-loop
 part-more-end c = search needs
@@ -51,14 +54,19 @@ more-requires c κs =
     let a = c .before .before .before .before .before .before .args in
     let l = c .before .before .before .loop in
     let h = more-room (a .kind) (now (a .xs)) (l .i) _ (l .inv .1) (omega arith) in
-    part-room (moreText (a .kind) (take (l .i) (now (a .xs)))) (comma ∷ itemText (a .kind) (getD (now (a .xs)) (l .i) 0)) (now (a .output)) (l .output) (l .at) h (l .inv .2) (l .inv .3)
+    part-room (moreText (a .kind) (take (l .i) (now (a .xs)))) (comma ∷ itemText (a .kind) (getD (now (a .xs)) (l .i) 0)) (now (a .output))
+    (l .output) (l .at) h (l .inv .2) (l .inv .3)
 
 add-at : tie.Need-add-at Inv-loop μ-loop
 add-at c =
     let a = c .before .before .before .before .before .before .before .before .before .args in
     let l = c .before .before .before .before .before .before .loop in
     let h = more-room (a .kind) (now (a .xs)) (l .i) _ (l .inv .1) (omega arith) in
-    omega (arith, both-fit (moreText (a .kind) (take (l .i) (now (a .xs)))) (comma ∷ itemText (a .kind) (getD (now (a .xs)) (l .i) 0)) (now (a .output)) (l .output) (l .at) h (l .inv .2) (l .inv .3) _ (c .before .before .more .ensures .0))
+    omega (
+      arith,
+      both-fit (moreText (a .kind) (take (l .i) (now (a .xs)))) (comma ∷ itemText (a .kind) (getD (now (a .xs)) (l .i) 0)) (now
+          (a .output)) (l .output) (l .at) h (l .inv .2) (l .inv .3) _ (c .before .before .more .ensures .0),
+    )
 
 add-i : tie.Need-add-i Inv-loop μ-loop
 add-i c = search needs
@@ -78,7 +86,8 @@ loop-again c =
       l .inv .1,
       both-length v w (now (a .output)) (l .output) (l .at) h (l .inv .2) (l .inv .3) _ (c .before .before .more .ensures .0) ∙ ap length e,
       both-kept v w (now (a .output)) (l .output) (l .at) h (l .inv .2) (l .inv .3) (l .inv .4) _ (c .before .before .more .ensures .1),
-      both-onto v w (now (a .output)) (l .output) (l .at) h (l .inv .2) (l .inv .3) (l .inv .4) _ (c .before .before .more .ensures .1) ∙ ap (λ (t : List ℕ). onto t (now (a .output))) e,
+      both-onto v w (now (a .output)) (l .output) (l .at) h (l .inv .2) (l .inv .3) (l .inv .4) _ (c .before .before .more .ensures .1)
+          ∙ ap (λ (t : List ℕ). onto t (now (a .output))) e,
     )
 
 same-length : tie.Need-same-length Inv-loop μ-loop

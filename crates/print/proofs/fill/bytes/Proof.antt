@@ -34,8 +34,12 @@ loop-less c = search needs
 loop-again : tie.Need-loop-again Inv-loop μ-loop
 loop-again c =
     let a = c .before .before .before .args in
-    let l = c .before .before .loop in
-    (omega arith, l .inv .1, length-set (l .output) (l .i) _ ∙ l .inv .2, copy-turn (now (a .s)) (now (a .output)) (l .output) (l .i) (omega arith) (l .inv .1) (l .inv .3))
+    let l = c .before .before .loop in (
+      omega arith,
+      l .inv .1,
+      length-set (l .output) (l .i) _ ∙ l .inv .2,
+      copy-turn (now (a .s)) (now (a .output)) (l .output) (l .i) (omega arith) (l .inv .1) (l .inv .3),
+    )
 
 same-length : tie.Need-same-length Inv-loop μ-loop
 same-length c = c .before .loop .inv .2

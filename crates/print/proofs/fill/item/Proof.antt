@@ -18,7 +18,8 @@ number-requires : tie.Need-number-requires
 unfolding itemText
 number-requires c κs =
     let a = c .before .before .before .before .args in
-    subst (λ (k : Items). length (itemText k (a .x)) ≤ length (now (a .output))) (c .before .enum-told .given .1) (c .before .before .before .before .pre)
+    subst (λ (k : Items). length (itemText k (a .x)) ≤ length (now (a .output))) (c .before .enum-told .given .1)
+    (c .before .before .before .before .pre)
 
 enum-told-2 : tie.Need-enum-told-2
 enum-told-2 c = search needs
@@ -27,7 +28,8 @@ entry-requires : tie.Need-entry-requires
 unfolding itemText
 entry-requires c κs =
     let a = c .before .before .before .before .args in
-    subst (λ (k : Items). length (itemText k (a .x)) ≤ length (now (a .output))) (c .before .enum-told2 .given .1) (c .before .before .before .before .pre)
+    subst (λ (k : Items). length (itemText k (a .x)) ≤ length (now (a .output))) (c .before .enum-told2 .given .1)
+    (c .before .before .before .before .pre)
 
 same-length : tie.Need-same-length
 same-length c = search needs

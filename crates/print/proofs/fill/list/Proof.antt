@@ -32,19 +32,24 @@ shared-slice-read-item c = search needs
 item-requires : tie.Need-item-requires
 item-requires c κs =
     let a = c .before .before .before .before .before .args in
-    left-fits (front (a .kind) (now (a .xs))) (back (a .kind) (now (a .xs))) _ (list-room (a .kind) (now (a .xs)) _ (c .before .before .if1 .left) (c .before .before .before .before .before .pre))
+    left-fits (front (a .kind) (now (a .xs))) (back (a .kind) (now (a .xs))) _ (list-room (a .kind) (now (a .xs)) _ (c .before .before .if1 .left)
+    (c .before .before .before .before .before .pre))
 
 sub-all-more : tie.Need-sub-all-more
 sub-all-more c =
     let a = c .before .before .before .before .before .before .before .before .args in
     let k = c .before .before .item in
-    part-start (front (a .kind) (now (a .xs))) (back (a .kind) (now (a .xs))) (now (a .output)) (k .last .0) (k .result) (list-room (a .kind) (now (a .xs)) _ (c .before .before .before .before .before .if1 .left) (c .before .before .before .before .before .before .before .before .pre)) (k .ensures .0) (k .kept .0)
+    part-start (front (a .kind) (now (a .xs))) (back (a .kind) (now (a .xs))) (now (a .output)) (k .last .0) (k .result) (list-room (a .kind) (now
+    (a .xs)) _ (c .before .before .before .before .before .if1 .left) (c .before .before .before .before .before .before .before .before .pre))
+    (k .ensures .0) (k .kept .0)
 
 part-all-more-start : tie.Need-part-all-more-start
 part-all-more-start c =
     let a = c .before .before .before .before .before .before .before .before .args in
     let k = c .before .before .item in
-    part-start (front (a .kind) (now (a .xs))) (back (a .kind) (now (a .xs))) (now (a .output)) (k .last .0) (k .result) (list-room (a .kind) (now (a .xs)) _ (c .before .before .before .before .before .if1 .left) (c .before .before .before .before .before .before .before .before .pre)) (k .ensures .0) (k .kept .0)
+    part-start (front (a .kind) (now (a .xs))) (back (a .kind) (now (a .xs))) (now (a .output)) (k .last .0) (k .result) (list-room (a .kind) (now
+    (a .xs)) _ (c .before .before .before .before .before .if1 .left) (c .before .before .before .before .before .before .before .before .pre))
+    (k .ensures .0) (k .kept .0)
 
 part-all-more-end : tie.Need-part-all-more-end
 part-all-more-end c = search needs
@@ -62,28 +67,42 @@ all-more-requires : tie.Need-all-more-requires
 all-more-requires c κs =
     let a = c .before .before .before .before .before .before .before .before .before .before .args in
     let k = c .before .before .before .before .item in
-    part-room (front (a .kind) (now (a .xs))) (back (a .kind) (now (a .xs))) (now (a .output)) (k .last .0) (k .result) (list-room (a .kind) (now (a .xs)) _ (c .before .before .before .before .before .before .before .if1 .left) (c .before .before .before .before .before .before .before .before .before .before .pre)) (k .ensures .0) (k .kept .0)
+    part-room (front (a .kind) (now (a .xs))) (back (a .kind) (now (a .xs))) (now (a .output)) (k .last .0) (k .result) (list-room (a .kind) (now
+    (a .xs)) _ (c .before .before .before .before .before .before .before .if1 .left)
+    (c .before .before .before .before .before .before .before .before .before .before .pre)) (k .ensures .0) (k .kept .0)
 
 add-result : tie.Need-add-result
 add-result c =
     let a = c .before .before .before .before .before .before .before .before .before .before .before .before .before .args in
     let k = c .before .before .before .before .before .before .before .item in
-    omega (arith, both-fit (front (a .kind) (now (a .xs))) (back (a .kind) (now (a .xs))) (now (a .output)) (k .last .0) (k .result) (list-room (a .kind) (now (a .xs)) _ (c .before .before .before .before .before .before .before .before .before .before .if1 .left) (c .before .before .before .before .before .before .before .before .before .before .before .before .before .pre)) (k .ensures .0) (k .kept .0) _ (c .before .before .all-more .ensures .0))
+    omega (
+      arith,
+      both-fit (front (a .kind) (now (a .xs))) (back (a .kind) (now (a .xs))) (now (a .output)) (k .last .0) (k .result) (list-room
+          (a .kind) (now (a .xs)) _ (c .before .before .before .before .before .before .before .before .before .before .if1 .left)
+          (c .before .before .before .before .before .before .before .before .before .before .before .before .before .pre)) (k .ensures .0) (k .kept .0) _
+          (c .before .before .all-more .ensures .0),
+    )
 
 same-length : tie.Need-same-length
 same-length c =
     let a = c .before .before .before .before .before .before .before .before .before .before .before .before .before .args in
     let k = c .before .before .before .before .before .before .before .item in
-    both-kept (front (a .kind) (now (a .xs))) (back (a .kind) (now (a .xs))) (now (a .output)) (k .last .0) (k .result) (list-room (a .kind) (now (a .xs)) _ (c .before .before .before .before .before .before .before .before .before .before .if1 .left) (c .before .before .before .before .before .before .before .before .before .before .before .before .before .pre)) (k .ensures .0) (k .kept .0) (k .ensures .1) _ (c .before .before .all-more .ensures .1)
+    both-kept (front (a .kind) (now (a .xs))) (back (a .kind) (now (a .xs))) (now (a .output)) (k .last .0) (k .result) (list-room (a .kind) (now
+    (a .xs)) _ (c .before .before .before .before .before .before .before .before .before .before .if1 .left)
+    (c .before .before .before .before .before .before .before .before .before .before .before .before .before .pre)) (k .ensures .0) (k .kept .0)
+    (k .ensures .1) _ (c .before .before .all-more .ensures .1)
 
 returns-2 : tie.Need-returns-2
 returns-2 c =
     let a = c .before .before .before .before .before .before .before .before .before .before .before .before .before .args in
     let k = c .before .before .before .before .before .before .before .item in
-    let h = list-room (a .kind) (now (a .xs)) _ (c .before .before .before .before .before .before .before .before .before .before .if1 .left) (c .before .before .before .before .before .before .before .before .before .before .before .before .before .pre) in
+    let h = list-room (a .kind) (now (a .xs)) _ (c .before .before .before .before .before .before .before .before .before .before .if1 .left)
+    (c .before .before .before .before .before .before .before .before .before .before .before .before .before .pre) in
     let e = sym (list-some (a .kind) (now (a .xs)) (c .before .before .before .before .before .before .before .before .before .before .if1 .left)) in (
-      both-length (front (a .kind) (now (a .xs))) (back (a .kind) (now (a .xs))) (now (a .output)) (k .last .0) (k .result) h (k .ensures .0) (k .kept .0) _ (c .before .before .all-more .ensures .0) ∙ ap length e,
-      both-onto (front (a .kind) (now (a .xs))) (back (a .kind) (now (a .xs))) (now (a .output)) (k .last .0) (k .result) h (k .ensures .0) (k .kept .0) (k .ensures .1) _ (c .before .before .all-more .ensures .1) ∙ ap (λ (t : List ℕ). onto t (now (a .output))) e,
+      both-length (front (a .kind) (now (a .xs))) (back (a .kind) (now (a .xs))) (now (a .output)) (k .last .0) (k .result) h (k .ensures .0)
+          (k .kept .0) _ (c .before .before .all-more .ensures .0) ∙ ap length e,
+      both-onto (front (a .kind) (now (a .xs))) (back (a .kind) (now (a .xs))) (now (a .output)) (k .last .0) (k .result) h (k .ensures .0)
+          (k .kept .0) (k .ensures .1) _ (c .before .before .all-more .ensures .1) ∙ ap (λ (t : List ℕ). onto t (now (a .output))) e,
     )
 
 pub list-spec : {M : Type 1} → statement M

@@ -26,12 +26,16 @@ bytes-requires c κs =
 sub-list-then-lf : tie.Need-sub-list-then-lf
 sub-list-then-lf c =
     let a = c .before .before .before .before .before .before .before .args in
-    part-start (front (now (a .key)) (a .kind) (now (a .xs))) (back (now (a .key)) (a .kind) (now (a .xs))) (now (a .output)) (c .before .before .bytes .last .0) (c .before .before .bytes .result) (c .before .before .before .before .before .before .before .pre) (c .before .before .bytes .ensures .0) (c .before .before .bytes .kept .0)
+    part-start (front (now (a .key)) (a .kind) (now (a .xs))) (back (now (a .key)) (a .kind) (now (a .xs))) (now (a .output))
+    (c .before .before .bytes .last .0) (c .before .before .bytes .result) (c .before .before .before .before .before .before .before .pre)
+    (c .before .before .bytes .ensures .0) (c .before .before .bytes .kept .0)
 
 part-list-then-lf-start : tie.Need-part-list-then-lf-start
 part-list-then-lf-start c =
     let a = c .before .before .before .before .before .before .before .args in
-    part-start (front (now (a .key)) (a .kind) (now (a .xs))) (back (now (a .key)) (a .kind) (now (a .xs))) (now (a .output)) (c .before .before .bytes .last .0) (c .before .before .bytes .result) (c .before .before .before .before .before .before .before .pre) (c .before .before .bytes .ensures .0) (c .before .before .bytes .kept .0)
+    part-start (front (now (a .key)) (a .kind) (now (a .xs))) (back (now (a .key)) (a .kind) (now (a .xs))) (now (a .output))
+    (c .before .before .bytes .last .0) (c .before .before .bytes .result) (c .before .before .before .before .before .before .before .pre)
+    (c .before .before .bytes .ensures .0) (c .before .before .bytes .kept .0)
 
 part-list-then-lf-end : tie.Need-part-list-then-lf-end
 part-list-then-lf-end c = search needs
@@ -39,23 +43,45 @@ part-list-then-lf-end c = search needs
 list-then-lf-requires : tie.Need-list-then-lf-requires
 list-then-lf-requires c κs =
     let a = c .before .before .before .before .before .before .before .before .args in
-    part-room (front (now (a .key)) (a .kind) (now (a .xs))) (back (now (a .key)) (a .kind) (now (a .xs))) (now (a .output)) (c .before .before .before .bytes .last .0) (c .before .before .before .bytes .result) (c .before .before .before .before .before .before .before .before .pre) (c .before .before .before .bytes .ensures .0) (c .before .before .before .bytes .kept .0)
+    part-room (front (now (a .key)) (a .kind) (now (a .xs))) (back (now (a .key)) (a .kind) (now (a .xs))) (now (a .output))
+    (c .before .before .before .bytes .last .0) (c .before .before .before .bytes .result)
+    (c .before .before .before .before .before .before .before .before .pre) (c .before .before .before .bytes .ensures .0)
+    (c .before .before .before .bytes .kept .0)
 
 add-result : tie.Need-add-result
 add-result c =
     let a = c .before .before .before .before .before .before .before .before .before .before .before .args in
-    omega (arith, both-fit (front (now (a .key)) (a .kind) (now (a .xs))) (back (now (a .key)) (a .kind) (now (a .xs))) (now (a .output)) (c .before .before .before .before .before .before .bytes .last .0) (c .before .before .before .before .before .before .bytes .result) (c .before .before .before .before .before .before .before .before .before .before .before .pre) (c .before .before .before .before .before .before .bytes .ensures .0) (c .before .before .before .before .before .before .bytes .kept .0) _ (c .before .before .list-then-lf .ensures .0))
+    omega (
+      arith,
+      both-fit (front (now (a .key)) (a .kind) (now (a .xs))) (back (now (a .key)) (a .kind) (now (a .xs))) (now (a .output))
+          (c .before .before .before .before .before .before .bytes .last .0) (c .before .before .before .before .before .before .bytes .result)
+          (c .before .before .before .before .before .before .before .before .before .before .before .pre)
+          (c .before .before .before .before .before .before .bytes .ensures .0) (c .before .before .before .before .before .before .bytes .kept .0) _
+          (c .before .before .list-then-lf .ensures .0),
+    )
 
 same-length : tie.Need-same-length
 same-length c =
     let a = c .before .before .before .before .before .before .before .before .before .before .before .args in
-    both-kept (front (now (a .key)) (a .kind) (now (a .xs))) (back (now (a .key)) (a .kind) (now (a .xs))) (now (a .output)) (c .before .before .before .before .before .before .bytes .last .0) (c .before .before .before .before .before .before .bytes .result) (c .before .before .before .before .before .before .before .before .before .before .before .pre) (c .before .before .before .before .before .before .bytes .ensures .0) (c .before .before .before .before .before .before .bytes .kept .0) (c .before .before .before .before .before .before .bytes .ensures .1) _ (c .before .before .list-then-lf .ensures .1)
+    both-kept (front (now (a .key)) (a .kind) (now (a .xs))) (back (now (a .key)) (a .kind) (now (a .xs))) (now (a .output))
+    (c .before .before .before .before .before .before .bytes .last .0) (c .before .before .before .before .before .before .bytes .result)
+    (c .before .before .before .before .before .before .before .before .before .before .before .pre)
+    (c .before .before .before .before .before .before .bytes .ensures .0) (c .before .before .before .before .before .before .bytes .kept .0)
+    (c .before .before .before .before .before .before .bytes .ensures .1) _ (c .before .before .list-then-lf .ensures .1)
 
 returns : tie.Need-returns
 returns c =
     let a = c .before .before .before .before .before .before .before .before .before .before .before .args in (
-      both-length (front (now (a .key)) (a .kind) (now (a .xs))) (back (now (a .key)) (a .kind) (now (a .xs))) (now (a .output)) (c .before .before .before .before .before .before .bytes .last .0) (c .before .before .before .before .before .before .bytes .result) (c .before .before .before .before .before .before .before .before .before .before .before .pre) (c .before .before .before .before .before .before .bytes .ensures .0) (c .before .before .before .before .before .before .bytes .kept .0) _ (c .before .before .list-then-lf .ensures .0),
-      both-onto (front (now (a .key)) (a .kind) (now (a .xs))) (back (now (a .key)) (a .kind) (now (a .xs))) (now (a .output)) (c .before .before .before .before .before .before .bytes .last .0) (c .before .before .before .before .before .before .bytes .result) (c .before .before .before .before .before .before .before .before .before .before .before .pre) (c .before .before .before .before .before .before .bytes .ensures .0) (c .before .before .before .before .before .before .bytes .kept .0) (c .before .before .before .before .before .before .bytes .ensures .1) _ (c .before .before .list-then-lf .ensures .1),
+      both-length (front (now (a .key)) (a .kind) (now (a .xs))) (back (now (a .key)) (a .kind) (now (a .xs))) (now (a .output))
+          (c .before .before .before .before .before .before .bytes .last .0) (c .before .before .before .before .before .before .bytes .result)
+          (c .before .before .before .before .before .before .before .before .before .before .before .pre)
+          (c .before .before .before .before .before .before .bytes .ensures .0) (c .before .before .before .before .before .before .bytes .kept .0) _
+          (c .before .before .list-then-lf .ensures .0),
+      both-onto (front (now (a .key)) (a .kind) (now (a .xs))) (back (now (a .key)) (a .kind) (now (a .xs))) (now (a .output))
+          (c .before .before .before .before .before .before .bytes .last .0) (c .before .before .before .before .before .before .bytes .result)
+          (c .before .before .before .before .before .before .before .before .before .before .before .pre)
+          (c .before .before .before .before .before .before .bytes .ensures .0) (c .before .before .before .before .before .before .bytes .kept .0)
+          (c .before .before .before .before .before .before .bytes .ensures .1) _ (c .before .before .list-then-lf .ensures .1),
     )
 
 pub list-line-spec : {M : Type 1} → statement M

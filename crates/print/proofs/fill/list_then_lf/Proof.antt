@@ -19,13 +19,18 @@ slice-write-output : tie.Need-slice-write-output
 slice-write-output c =
     let a = c .before .before .before .before .before .before .args in
     let k = c .before .before .list in
-    byte-room (listText (a .kind) (now (a .xs))) (now (a .output)) (k .last .0) (k .result) lf (c .before .before .before .before .before .before .pre) (k .ensures .0) (k .kept .0)
+    byte-room (listText (a .kind) (now (a .xs))) (now (a .output)) (k .last .0) (k .result) lf
+    (c .before .before .before .before .before .before .pre) (k .ensures .0) (k .kept .0)
 
 add-result : tie.Need-add-result
 add-result c =
     let a = c .before .before .before .before .before .before .args in
     let k = c .before .before .list in
-    omega (arith, byte-room (listText (a .kind) (now (a .xs))) (now (a .output)) (k .last .0) (k .result) lf (c .before .before .before .before .before .before .pre) (k .ensures .0) (k .kept .0))
+    omega (
+      arith,
+      byte-room (listText (a .kind) (now (a .xs))) (now (a .output)) (k .last .0) (k .result) lf
+          (c .before .before .before .before .before .before .pre) (k .ensures .0) (k .kept .0),
+    )
 
 same-length : tie.Need-same-length
 same-length c =
@@ -36,8 +41,10 @@ returns : tie.Need-returns
 returns c =
     let a = c .before .before .before .before .before .before .args in
     let k = c .before .before .list in (
-      byte-length (listText (a .kind) (now (a .xs))) (now (a .output)) (k .last .0) (k .result) lf (c .before .before .before .before .before .before .pre) (k .ensures .0) (k .kept .0),
-      byte-onto (listText (a .kind) (now (a .xs))) (now (a .output)) (k .last .0) (k .result) lf (c .before .before .before .before .before .before .pre) (k .ensures .0) (k .kept .0) (k .ensures .1),
+      byte-length (listText (a .kind) (now (a .xs))) (now (a .output)) (k .last .0) (k .result) lf
+          (c .before .before .before .before .before .before .pre) (k .ensures .0) (k .kept .0),
+      byte-onto (listText (a .kind) (now (a .xs))) (now (a .output)) (k .last .0) (k .result) lf
+          (c .before .before .before .before .before .before .pre) (k .ensures .0) (k .kept .0) (k .ensures .1),
     )
 
 pub list-then-lf-spec : {M : Type 1} → statement M

@@ -17,12 +17,14 @@ slice-write-output c = omega (arith, c .before .pre)
 sub-item : tie.Need-sub-item
 sub-item c =
     let a = c .before .args in
-    part-start (comma ∷ []) (itemText (a .kind) (a .x)) (now (a .output)) (set (now (a .output)) 0 comma) 1 (c .before .pre) refl (length-set (now (a .output)) 0 comma)
+    part-start (comma ∷ []) (itemText (a .kind) (a .x)) (now (a .output)) (set (now (a .output)) 0 comma) 1 (c .before .pre) refl (length-set (now
+    (a .output)) 0 comma)
 
 part-item-start : tie.Need-part-item-start
 part-item-start c =
     let a = c .before .args in
-    part-start (comma ∷ []) (itemText (a .kind) (a .x)) (now (a .output)) (set (now (a .output)) 0 comma) 1 (c .before .pre) refl (length-set (now (a .output)) 0 comma)
+    part-start (comma ∷ []) (itemText (a .kind) (a .x)) (now (a .output)) (set (now (a .output)) 0 comma) 1 (c .before .pre) refl (length-set (now
+    (a .output)) 0 comma)
 
 part-item-end : tie.Need-part-item-end
 part-item-end c = search needs
@@ -30,25 +32,33 @@ part-item-end c = search needs
 item-requires : tie.Need-item-requires
 item-requires c κs =
     let a = c .before .before .args in
-    part-room (comma ∷ []) (itemText (a .kind) (a .x)) (now (a .output)) (set (now (a .output)) 0 comma) 1 (c .before .before .pre) refl (length-set (now (a .output)) 0 comma)
+    part-room (comma ∷ []) (itemText (a .kind) (a .x)) (now (a .output)) (set (now (a .output)) 0 comma) 1 (c .before .before .pre) refl (length-set
+    (now (a .output)) 0 comma)
 
 add-result : tie.Need-add-result
 add-result c =
     let a = c .before .before .before .before .before .args in
-    omega (arith, both-fit (comma ∷ []) (itemText (a .kind) (a .x)) (now (a .output)) (set (now (a .output)) 0 comma) 1 (c .before .before .before .before .before .pre) refl (length-set (now (a .output)) 0 comma) _ (c .before .before .item .ensures .0))
+    omega (
+      arith,
+      both-fit (comma ∷ []) (itemText (a .kind) (a .x)) (now (a .output)) (set (now (a .output)) 0 comma) 1
+          (c .before .before .before .before .before .pre) refl (length-set (now (a .output)) 0 comma) _ (c .before .before .item .ensures .0),
+    )
 
 same-length : tie.Need-same-length
 same-length c =
     let a = c .before .before .before .before .before .args in
     let first = onto-first (now (a .output)) comma (omega (arith, c .before .before .before .before .before .pre)) in
-    both-kept (comma ∷ []) (itemText (a .kind) (a .x)) (now (a .output)) (set (now (a .output)) 0 comma) 1 (c .before .before .before .before .before .pre) refl (length-set (now (a .output)) 0 comma) first _ (c .before .before .item .ensures .1)
+    both-kept (comma ∷ []) (itemText (a .kind) (a .x)) (now (a .output)) (set (now (a .output)) 0 comma) 1
+    (c .before .before .before .before .before .pre) refl (length-set (now (a .output)) 0 comma) first _ (c .before .before .item .ensures .1)
 
 returns : tie.Need-returns
 returns c =
     let a = c .before .before .before .before .before .args in
     let first = onto-first (now (a .output)) comma (omega (arith, c .before .before .before .before .before .pre)) in (
-      both-length (comma ∷ []) (itemText (a .kind) (a .x)) (now (a .output)) (set (now (a .output)) 0 comma) 1 (c .before .before .before .before .before .pre) refl (length-set (now (a .output)) 0 comma) _ (c .before .before .item .ensures .0),
-      both-onto (comma ∷ []) (itemText (a .kind) (a .x)) (now (a .output)) (set (now (a .output)) 0 comma) 1 (c .before .before .before .before .before .pre) refl (length-set (now (a .output)) 0 comma) first _ (c .before .before .item .ensures .1),
+      both-length (comma ∷ []) (itemText (a .kind) (a .x)) (now (a .output)) (set (now (a .output)) 0 comma) 1
+          (c .before .before .before .before .before .pre) refl (length-set (now (a .output)) 0 comma) _ (c .before .before .item .ensures .0),
+      both-onto (comma ∷ []) (itemText (a .kind) (a .x)) (now (a .output)) (set (now (a .output)) 0 comma) 1
+          (c .before .before .before .before .before .pre) refl (length-set (now (a .output)) 0 comma) first _ (c .before .before .item .ensures .1),
     )
 
 pub more-spec : {M : Type 1} → statement M

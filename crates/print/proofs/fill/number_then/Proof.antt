@@ -18,13 +18,18 @@ slice-write-output : tie.Need-slice-write-output
 slice-write-output c =
     let a = c .before .before .before .before .before .args in
     let k = c .before .before .number in
-    byte-room (decimalOf (a .v)) (now (a .output)) (k .last .0) (k .result) (a .b) (c .before .before .before .before .before .pre) (k .ensures .0) (k .kept .0)
+    byte-room (decimalOf (a .v)) (now (a .output)) (k .last .0) (k .result) (a .b) (c .before .before .before .before .before .pre) (k .ensures .0)
+    (k .kept .0)
 
 add-result : tie.Need-add-result
 add-result c =
     let a = c .before .before .before .before .before .args in
     let k = c .before .before .number in
-    omega (arith, byte-room (decimalOf (a .v)) (now (a .output)) (k .last .0) (k .result) (a .b) (c .before .before .before .before .before .pre) (k .ensures .0) (k .kept .0))
+    omega (
+      arith,
+      byte-room (decimalOf (a .v)) (now (a .output)) (k .last .0) (k .result) (a .b) (c .before .before .before .before .before .pre)
+          (k .ensures .0) (k .kept .0),
+    )
 
 same-length : tie.Need-same-length
 same-length c =
@@ -35,8 +40,10 @@ returns : tie.Need-returns
 returns c =
     let a = c .before .before .before .before .before .args in
     let k = c .before .before .number in (
-      byte-length (decimalOf (a .v)) (now (a .output)) (k .last .0) (k .result) (a .b) (c .before .before .before .before .before .pre) (k .ensures .0) (k .kept .0),
-      byte-onto (decimalOf (a .v)) (now (a .output)) (k .last .0) (k .result) (a .b) (c .before .before .before .before .before .pre) (k .ensures .0) (k .kept .0) (k .ensures .1),
+      byte-length (decimalOf (a .v)) (now (a .output)) (k .last .0) (k .result) (a .b) (c .before .before .before .before .before .pre)
+          (k .ensures .0) (k .kept .0),
+      byte-onto (decimalOf (a .v)) (now (a .output)) (k .last .0) (k .result) (a .b) (c .before .before .before .before .before .pre)
+          (k .ensures .0) (k .kept .0) (k .ensures .1),
     )
 
 pub number-then-spec : {M : Type 1} → statement M

@@ -42,8 +42,13 @@ add-result-4 c = search needs
 returns : tie.Need-returns
 unfolding itemText
 returns c =
-    let a = c .before .before .before .args in
-    (c .number-size .ensures .0 ∙ ap (λ (k : Items). length (itemText k (a .x))) (sym (c .before .enum-told .given .1)), omega (arith, c .number-size .ensures .1))
+    let a = c .before .before .before .args in (
+      c .number-size .ensures .0 ∙ ap (λ (k : Items). length (itemText k (a .x))) (sym (c .before .enum-told .given .1)),
+      omega (
+        arith,
+        c .number-size .ensures .1,
+      ),
+    )
 
 returns-2 : tie.Need-returns-2
 unfolding itemText

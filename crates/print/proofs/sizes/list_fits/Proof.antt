@@ -42,7 +42,8 @@ more-fits-requires c κs = search needs
 returns-3 : tie.Need-returns-3
 returns-3 c =
     let a = c .before .before .before .before .before .before .before .args in
-    fits-rest (a .kind) (now (a .xs)) (a .room) _ (c .before .before .before .before .before .if1 .left) (c .before .before .before .item-size .ensures .0) (omega arith) (c .more-fits .ensures)
+    fits-rest (a .kind) (now (a .xs)) (a .room) _ (c .before .before .before .before .before .if1 .left)
+    (c .before .before .before .item-size .ensures .0) (omega arith) (c .more-fits .ensures)
 
 pub list-fits-spec : {M : Type 1} → statement M
 list-fits-spec =

@@ -36,7 +36,8 @@ returns-2 : tie.Need-returns-2
 returns-2 c =
     let s = now (c .before .before .before .before .before .before .before .before .args .s) in
     let read = sym (c .before .before .before .before .before .read-header .ensures) ∙ c .before .before .before .h .given .1 in
-    c .form-trays .ensures ∙ ap (formTrays _ (headerSize + 1) _) (c .before .past-lines .ensures) ∙ sym (form-good s (c .before .before .before .before .before .before .if1 .left) _ read)
+    c .form-trays .ensures ∙ ap (formTrays _ (headerSize + 1) _) (c .before .past-lines .ensures)
+    ∙ sym (form-good s (c .before .before .before .before .before .before .if1 .left) _ read)
 
 returns-3 : tie.Need-returns-3
 returns-3 c =

@@ -17,7 +17,8 @@ use Rattle.schedule.proofs.forms.form_sends.Statement.{statement}
 use Rattle.schedule.proofs.forms.form_sends.Tie as tie
 
 abbrev Inv-loop : tie.InvT-loop
-Inv-loop h s k₀ last₀ at₀ k last at = (at ≤ length s) × (k ≤ at + 20) × (formSends h (headerSize + 1 + h .n) 0 (linesOf s) ≡ formSends h k last (linesOf (drop at s)))
+Inv-loop h s k₀ last₀ at₀ k last at = (at ≤ length s) × (k ≤ at + 20) × (formSends h (headerSize + 1 + h .n) 0 (linesOf s) ≡ formSends h k last
+    (linesOf (drop at s)))
 
 abbrev μ-loop : tie.MeasureT-loop
 μ-loop h s k₀ last₀ at₀ k last at = length s - at
@@ -50,9 +51,11 @@ returns : tie.Need-returns Inv-loop μ-loop
 returns c =
     let a = c .before .before .before .before .before .before .before .before .before .args in
     let l = c .before .before .before .before .before .before .loop in
-    let next = lines-next (now (a .s)) _ (l .at) (omega arith) (c .before .before .before .first-line .ensures) (c .before .before .before .before .before .loop-test .taken) in
+    let next = lines-next (now (a .s)) _ (l .at) (omega arith) (c .before .before .before .first-line .ensures)
+    (c .before .before .before .before .before .loop-test .taken) in
     let last = line-last (now (a .s)) _ (l .at) (omega arith) (c .before .before .before .first-line .ensures) (c .if2 .taken) in
-    sym (l .inv .2 ∙ ap (formSends (a .h) (l .k) (l .last)) next ∙ sends-good (a .h) (l .k) (l .last) _ _ (sym (c .before .before .is-end .ensures) ∙ c .before .if1 .taken) last)
+    sym (l .inv .2 ∙ ap (formSends (a .h) (l .k) (l .last)) next ∙ sends-good (a .h) (l .k) (l .last) _ _ (sym (c .before .before .is-end .ensures)
+    ∙ c .before .if1 .taken) last)
 
 add-t15 : tie.Need-add-t15 Inv-loop μ-loop
 add-t15 c = search needs
@@ -61,9 +64,11 @@ returns-2 : tie.Need-returns-2 Inv-loop μ-loop
 returns-2 c =
     let a = c .before .before .before .before .before .before .before .before .before .args in
     let l = c .before .before .before .before .before .before .loop in
-    let next = lines-next (now (a .s)) _ (l .at) (omega arith) (c .before .before .before .first-line .ensures) (c .before .before .before .before .before .loop-test .taken) in
+    let next = lines-next (now (a .s)) _ (l .at) (omega arith) (c .before .before .before .first-line .ensures)
+    (c .before .before .before .before .before .loop-test .taken) in
     let more = line-not-last (now (a .s)) _ (l .at) (omega arith) (c .before .before .before .first-line .ensures) (c .if2 .left) in
-    sym (l .inv .2 ∙ ap (formSends (a .h) (l .k) (l .last)) next ∙ sends-more (a .h) (l .k) (l .last) _ _ (sym (c .before .before .is-end .ensures) ∙ c .before .if1 .taken) more)
+    sym (l .inv .2 ∙ ap (formSends (a .h) (l .k) (l .last)) next ∙ sends-more (a .h) (l .k) (l .last) _ _ (sym (c .before .before .is-end .ensures)
+    ∙ c .before .if1 .taken) more)
 
 send-rank-requires : tie.Need-send-rank-requires Inv-loop μ-loop
 send-rank-requires c κs = search needs
@@ -72,15 +77,21 @@ returns-3 : tie.Need-returns-3 Inv-loop μ-loop
 returns-3 c =
     let a = c .before .before .before .before .before .before .before .before .before .before .args in
     let l = c .before .before .before .before .before .before .before .loop in
-    let next = lines-next (now (a .s)) _ (l .at) (omega arith) (c .before .before .before .before .first-line .ensures) (c .before .before .before .before .before .before .loop-test .taken) in
+    let next = lines-next (now (a .s)) _ (l .at) (omega arith) (c .before .before .before .before .first-line .ensures)
+    (c .before .before .before .before .before .before .loop-test .taken) in
     sym (l .inv .2 ∙ ap (formSends (a .h) (l .k) (l .last)) next
-    ∙ sends-bad (a .h) (l .k) (l .last) _ _ _ (c .before .send-rank .ensures) (sym (c .before .before .before .is-end .ensures) ∙ c .before .before .if1 .left) (c .if3 .taken))
+    ∙ sends-bad (a .h) (l .k) (l .last) _ _ _ (c .before .send-rank .ensures) (sym (c .before .before .before .is-end .ensures)
+    ∙ c .before .before .if1 .left) (omega arith))
 
 add-at : tie.Need-add-at Inv-loop μ-loop
 add-at c =
     let a = c .before .before .before .before .before .before .before .before .before .before .args in
     let l = c .before .before .before .before .before .before .before .loop in
-    omega (arith, line-fits (now (a .s)) (now (c .before .before .before .before .first-line .result)) (l .at) (omega arith) (c .before .before .before .before .first-line .ensures))
+    omega (
+      arith,
+      line-fits (now (a .s)) (now (c .before .before .before .before .first-line .result)) (l .at) (omega arith)
+          (c .before .before .before .before .first-line .ensures),
+    )
 
 add-k-3 : tie.Need-add-k-3 Inv-loop μ-loop
 add-k-3 c = search needs
@@ -89,19 +100,27 @@ loop-less : tie.Need-loop-less Inv-loop μ-loop
 loop-less c =
     let a = c .before .before .before .before .before .before .before .before .before .before .args in
     let l = c .before .before .before .before .before .before .before .loop in
-    omega (arith, line-some (now (a .s)) (now (c .before .before .before .before .first-line .result)) (l .at) (omega arith) (c .before .before .before .before .first-line .ensures) (c .before .before .before .before .before .before .loop-test .taken))
+    omega (
+      arith,
+      line-some (now (a .s)) (now (c .before .before .before .before .first-line .result)) (l .at) (omega arith)
+          (c .before .before .before .before .first-line .ensures) (c .before .before .before .before .before .before .loop-test .taken),
+    )
 
 loop-again : tie.Need-loop-again Inv-loop μ-loop
 loop-again c =
     let a = c .before .before .before .before .before .before .before .before .before .before .args in
     let l = c .before .before .before .before .before .before .before .loop in
-    let fits = line-fits (now (a .s)) (now (c .before .before .before .before .first-line .result)) (l .at) (omega arith) (c .before .before .before .before .first-line .ensures) in
-    let some = line-some (now (a .s)) (now (c .before .before .before .before .first-line .result)) (l .at) (omega arith) (c .before .before .before .before .first-line .ensures) (c .before .before .before .before .before .before .loop-test .taken) in
-    let next = lines-next (now (a .s)) _ (l .at) (omega arith) (c .before .before .before .before .first-line .ensures) (c .before .before .before .before .before .before .loop-test .taken) in (
+    let fits = line-fits (now (a .s)) (now (c .before .before .before .before .first-line .result)) (l .at) (omega arith)
+    (c .before .before .before .before .first-line .ensures) in
+    let some = line-some (now (a .s)) (now (c .before .before .before .before .first-line .result)) (l .at) (omega arith)
+    (c .before .before .before .before .first-line .ensures) (c .before .before .before .before .before .before .loop-test .taken) in
+    let next = lines-next (now (a .s)) _ (l .at) (omega arith) (c .before .before .before .before .first-line .ensures)
+    (c .before .before .before .before .before .before .loop-test .taken) in (
       fits,
       omega (arith, some),
       l .inv .2 ∙ ap (formSends (a .h) (l .k) (l .last)) next
-          ∙ sends-go (a .h) (l .k) (l .last) _ _ _ (c .before .send-rank .ensures) (sym (c .before .before .before .is-end .ensures) ∙ c .before .before .if1 .left) (c .if3 .left),
+          ∙ sends-go (a .h) (l .k) (l .last) _ _ _ (c .before .send-rank .ensures) (sym (c .before .before .before .is-end .ensures)
+          ∙ c .before .before .if1 .left) (omega arith),
     )
 
 returns-4 : tie.Need-returns-4 Inv-loop μ-loop

@@ -19,7 +19,8 @@ use Rattle.schedule.proofs.forms.form_trays.Statement.{statement}
 use Rattle.schedule.proofs.forms.form_trays.Tie as tie
 
 abbrev Inv-loop : tie.InvT-loop
-Inv-loop h s at₀ i₀ at i = (at ≤ length s) × (i ≤ h .n) × (formTrays h (headerSize + 1) (h .n) (linesOf s) ≡ formTrays h (headerSize + 1 + i) (h .n - i) (linesOf (drop at s)))
+Inv-loop h s at₀ i₀ at i = (at ≤ length s) × (i ≤ h .n) × (formTrays h (headerSize + 1) (h .n) (linesOf s) ≡ formTrays h (headerSize + 1 + i)
+    (h .n - i) (linesOf (drop at s)))
 
 abbrev μ-loop : tie.MeasureT-loop
 μ-loop h s at₀ i₀ at i = h .n - i
@@ -56,7 +57,8 @@ returns c =
     let l = c .before .before .before .before .before .before .loop in
     let here = line-here (now (a .s)) _ (l .at) (omega arith) (c .before .before .first-line .ensures) in
     let after = lines-after (now (a .s)) _ (l .at) (omega arith) (c .before .before .first-line .ensures) in
-    sym (l .inv .2 ∙ trays-bad (a .h) (headerSize + 1 + l .i) (l .i) _ _ _ here after (omega arith) (sym (c .before .is-tray .ensures) ∙ not-true _ (c .if2 .taken)))
+    sym (l .inv .2 ∙ trays-bad (a .h) (headerSize + 1 + l .i) (l .i) _ _ _ here after (omega arith) (sym (c .before .is-tray .ensures)
+    ∙ not-true _ (c .if2 .taken)))
 
 add-at : tie.Need-add-at Inv-loop μ-loop
 add-at c =
@@ -77,9 +79,14 @@ loop-again c =
     let fits = line-fits (now (a .s)) (now (c .before .before .first-line .result)) (l .at) (omega arith) (c .before .before .first-line .ensures) in
     let here = line-here (now (a .s)) _ (l .at) (omega arith) (c .before .before .first-line .ensures) in
     let after = lines-after (now (a .s)) _ (l .at) (omega arith) (c .before .before .first-line .ensures) in
-    let go = trays-go (a .h) (headerSize + 1 + l .i) (l .i) _ _ _ here after (omega arith) (sym (c .before .is-tray .ensures) ∙ not-false _ (c .if2 .left)) in
-    let k : headerSize + 1 + l .i + 1 ≡ headerSize + 1 + (l .i + 1) = omega arith in
-    (fits, omega arith, l .inv .2 ∙ go ∙ ap (λ (j : ℕ). formTrays (a .h) j (a .h .n - (l .i + 1)) (linesOf (drop (l .at + length (now (c .before .before .first-line .result))) (now (a .s))))) k)
+    let go = trays-go (a .h) (headerSize + 1 + l .i) (l .i) _ _ _ here after (omega arith) (sym (c .before .is-tray .ensures)
+    ∙ not-false _ (c .if2 .left)) in
+    let k : headerSize + 1 + l .i + 1 ≡ headerSize + 1 + (l .i + 1) = omega arith in (
+      fits,
+      omega arith,
+      l .inv .2 ∙ go ∙ ap (λ (j : ℕ). formTrays (a .h) j (a .h .n - (l .i + 1)) (linesOf (drop (l .at + length (now
+          (c .before .before .first-line .result))) (now (a .s))))) k,
+    )
 
 sub-form-sends : tie.Need-sub-form-sends Inv-loop μ-loop
 sub-form-sends c = search needs

@@ -37,7 +37,11 @@ add-mask : tie.Need-add-mask Inv-loop μ-loop
 add-mask c =
     let a = c .before .before .before .before .args in
     let l = c .before .before .loop in
-    omega (arith, mask-fits (λ (j : ℕ). holds j (now (a .nodes))) (l .node) (l .mask) (c .is-listed .result) (c .before .loop-test .taken) (l .inv .1) (c .is-listed .ensures))
+    omega (
+      arith,
+      mask-fits (λ (j : ℕ). holds j (now (a .nodes))) (l .node) (l .mask) (c .is-listed .result) (c .before .loop-test .taken)
+          (l .inv .1) (c .is-listed .ensures),
+    )
 
 add-node : tie.Need-add-node Inv-loop μ-loop
 add-node c = search needs
@@ -48,8 +52,11 @@ loop-less c = search needs
 loop-again : tie.Need-loop-again Inv-loop μ-loop
 loop-again c =
     let a = c .before .before .before .before .args in
-    let l = c .before .before .loop in
-    (omega arith, mask-turn (λ (j : ℕ). holds j (now (a .nodes))) (l .node) (l .mask) (c .is-listed .result) (c .before .loop-test .taken) (l .inv .1) (c .is-listed .ensures))
+    let l = c .before .before .loop in (
+      omega arith,
+      mask-turn (λ (j : ℕ). holds j (now (a .nodes))) (l .node) (l .mask) (c .is-listed .result) (c .before .loop-test .taken)
+          (l .inv .1) (c .is-listed .ensures),
+    )
 
 returns : tie.Need-returns Inv-loop μ-loop
 returns c =

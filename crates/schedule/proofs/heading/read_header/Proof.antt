@@ -14,7 +14,8 @@ use Rattle.schedule.proofs.heading.read_header.Statement.{statement}
 use Rattle.schedule.proofs.heading.read_header.Tie as tie
 
 abbrev Inv-loop : tie.InvT-loop
-Inv-loop s h₀ at₀ i₀ h at i = (at ≤ length s) × (i ≤ headerSize) × (headedOf (linesOf s) ≡ headFrom (drop i headerKeys) (i + 1) h (linesOf (drop at s)))
+Inv-loop s h₀ at₀ i₀ h at i = (at ≤ length s) × (i ≤ headerSize) × (headedOf (linesOf s) ≡ headFrom (drop i headerKeys) (i + 1) h (linesOf
+    (drop at s)))
 
 abbrev μ-loop : tie.MeasureT-loop
 μ-loop s h₀ at₀ i₀ h at i = headerSize - i
@@ -56,13 +57,18 @@ returns c =
     let here = line-here (now (a .s)) _ (l .at) (omega arith) (c .before .before .before .before .before .first-line .ensures) in
     let after = lines-after (now (a .s)) _ (l .at) (omega arith) (c .before .before .before .before .before .first-line .ensures) in
     let line = sym (c .before .before .before .with-line .ensures) ∙ c .before .k .given .1 in
-    sym (l .inv .2 ∙ head-bad (l .i) (l .i + 1) (l .h) _ _ _ _ (c .before .before .before .before .before .before .before .loop-test .taken) (c .before .before .before .before .key-at .ensures) here after _ line)
+    sym (l .inv .2 ∙ head-bad (l .i) (l .i + 1) (l .h) _ _ _ _ (c .before .before .before .before .before .before .before .loop-test .taken)
+    (c .before .before .before .before .key-at .ensures) here after _ line)
 
 add-at : tie.Need-add-at Inv-loop μ-loop
 add-at c =
     let a = c .before .before .before .before .before .before .before .before .before .before .args in
     let l = c .before .before .before .before .before .before .before .before .loop in
-    omega (arith, line-fits (now (a .s)) (now (c .before .before .before .before .before .first-line .result)) (l .at) (omega arith) (c .before .before .before .before .before .first-line .ensures))
+    omega (
+      arith,
+      line-fits (now (a .s)) (now (c .before .before .before .before .before .first-line .result)) (l .at) (omega arith)
+          (c .before .before .before .before .before .first-line .ensures),
+    )
 
 add-i : tie.Need-add-i Inv-loop μ-loop
 add-i c = search needs
@@ -74,11 +80,17 @@ loop-again : tie.Need-loop-again Inv-loop μ-loop
 loop-again c =
     let a = c .before .before .before .before .before .before .before .before .before .before .args in
     let l = c .before .before .before .before .before .before .before .before .loop in
-    let fits = line-fits (now (a .s)) (now (c .before .before .before .before .before .first-line .result)) (l .at) (omega arith) (c .before .before .before .before .before .first-line .ensures) in
+    let fits = line-fits (now (a .s)) (now (c .before .before .before .before .before .first-line .result)) (l .at) (omega arith)
+    (c .before .before .before .before .before .first-line .ensures) in
     let here = line-here (now (a .s)) _ (l .at) (omega arith) (c .before .before .before .before .before .first-line .ensures) in
     let after = lines-after (now (a .s)) _ (l .at) (omega arith) (c .before .before .before .before .before .first-line .ensures) in
-    let line = sym (c .before .before .before .with-line .ensures) ∙ c .before .next .given .1 in
-    (fits, omega arith, l .inv .2 ∙ head-good (l .i) (l .i + 1) (l .h) _ _ _ _ (c .before .before .before .before .before .before .before .loop-test .taken) (c .before .before .before .before .key-at .ensures) here after _ line)
+    let line = sym (c .before .before .before .with-line .ensures) ∙ c .before .next .given .1 in (
+      fits,
+      omega arith,
+      l .inv .2 ∙ head-good (l .i) (l .i + 1) (l .h) _ _ _ _
+          (c .before .before .before .before .before .before .before .loop-test .taken)
+          (c .before .before .before .before .key-at .ensures) here after _ line,
+    )
 
 returns-2 : tie.Need-returns-2 Inv-loop μ-loop
 returns-2 c =

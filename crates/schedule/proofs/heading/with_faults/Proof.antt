@@ -35,12 +35,14 @@ mul-if1 c =
 returns-2 : tie.Need-returns-2
 returns-2 c =
     let a = c .before .before .before .before .before .before .before .before .args in
-    sym (faults-many (a .k) (a .h) _ _ (sym (c .before .before .before .before .before .line-number .ensures) ∙ c .before .before .before .f .given .1) (c .if1 .taken))
+    sym (faults-many (a .k) (a .h) _ _ (sym (c .before .before .before .before .before .line-number .ensures)
+    ∙ c .before .before .before .f .given .1) (omega arith))
 
 returns-3 : tie.Need-returns-3
 returns-3 c =
     let a = c .before .before .before .before .before .before .before .before .args in
-    sym (faults-few (a .k) (a .h) _ _ (sym (c .before .before .before .before .before .line-number .ensures) ∙ c .before .before .before .f .given .1) (c .if1 .left))
+    sym (faults-few (a .k) (a .h) _ _ (sym (c .before .before .before .before .before .line-number .ensures)
+    ∙ c .before .before .before .f .given .1) (omega arith))
 
 pub with-faults-spec : {M : Type 1} → statement M
 with-faults-spec =

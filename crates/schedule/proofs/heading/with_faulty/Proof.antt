@@ -23,13 +23,20 @@ returns c =
 returns-2 : tie.Need-returns-2
 returns-2 c =
     let a = c .before .before .before .before .before .before .before .args in
-    sym (faulty-many (a .k) (a .h) _ (c .before .before .before .before .line-list .result) (c .before .before .before .before .line-list .ensures) (not-false _ (c .before .before .if1 .left)) (c .if2 .taken))
+    sym (faulty-many (a .k) (a .h) _ (c .before .before .before .before .line-list .result) (c .before .before .before .before .line-list .ensures)
+    (not-false _ (c .before .before .if1 .left)) (c .if2 .taken))
 
 array-share-prefix-items : tie.Need-array-share-prefix-items
-array-share-prefix-items c = omega (arith, listed-room _ (c .before .before .before .before .before .line-list .result) (c .before .before .before .before .before .line-list .ensures))
+array-share-prefix-items c = omega (
+  arith,
+  listed-room _ (c .before .before .before .before .before .line-list .result)
+      (c .before .before .before .before .before .line-list .ensures),
+)
 
 slice-aggregate-mask-of : tie.Need-slice-aggregate-mask-of
-slice-aggregate-mask-of c = sym (length-take-le (c .before .before .before .before .before .before .line-list .result .count) (c .before .before .before .before .before .before .line-list .result .items) (listed-room _ (c .before .before .before .before .before .before .line-list .result) (c .before .before .before .before .before .before .line-list .ensures)))
+slice-aggregate-mask-of c = sym (length-take-le (c .before .before .before .before .before .before .line-list .result .count)
+    (c .before .before .before .before .before .before .line-list .result .items) (listed-room _
+    (c .before .before .before .before .before .before .line-list .result) (c .before .before .before .before .before .before .line-list .ensures)))
 
 mask-of-requires : tie.Need-mask-of-requires
 mask-of-requires c κs = search needs
@@ -37,7 +44,9 @@ mask-of-requires c κs = search needs
 returns-3 : tie.Need-returns-3
 returns-3 c =
     let a = c .before .before .before .before .before .before .before .before .before .before .args in
-    sym (faulty-few (a .k) (a .h) _ (c .before .before .before .before .before .before .before .line-list .result) (c .before .before .before .before .before .before .before .line-list .ensures) (not-false _ (c .before .before .before .before .before .if1 .left)) _ (c .before .before .before .if2 .left) (c .mask-of .ensures))
+    sym (faulty-few (a .k) (a .h) _ (c .before .before .before .before .before .before .before .line-list .result)
+    (c .before .before .before .before .before .before .before .line-list .ensures) (not-false _
+    (c .before .before .before .before .before .if1 .left)) _ (c .before .before .before .if2 .left) (c .mask-of .ensures))
 
 pub with-faulty-spec : {M : Type 1} → statement M
 with-faulty-spec =

@@ -29,12 +29,14 @@ is-sized-requires c κs = search needs
 returns-2 : tie.Need-returns-2
 returns-2 c =
     let a = c .before .before .before .before .before .before .before .before .args in
-    sym (nodes-bad (a .k) (a .h) _ _ (sym (c .before .before .before .before .before .line-number .ensures) ∙ c .before .before .before .n .given .1) (sym (c .before .is-sized .ensures) ∙ not-true _ (c .if1 .taken)))
+    sym (nodes-bad (a .k) (a .h) _ _ (sym (c .before .before .before .before .before .line-number .ensures)
+    ∙ c .before .before .before .n .given .1) (sym (c .before .is-sized .ensures) ∙ not-true _ (c .if1 .taken)))
 
 returns-3 : tie.Need-returns-3
 returns-3 c =
     let a = c .before .before .before .before .before .before .before .before .args in
-    sym (nodes-good (a .k) (a .h) _ _ (sym (c .before .before .before .before .before .line-number .ensures) ∙ c .before .before .before .n .given .1) (sym (c .before .is-sized .ensures) ∙ not-false _ (c .if1 .left)))
+    sym (nodes-good (a .k) (a .h) _ _ (sym (c .before .before .before .before .before .line-number .ensures)
+    ∙ c .before .before .before .n .given .1) (sym (c .before .is-sized .ensures) ∙ not-false _ (c .if1 .left)))
 
 pub with-nodes-spec : {M : Type 1} → statement M
 with-nodes-spec =

@@ -15,7 +15,7 @@ returns c =
 returns-2 : tie.Need-returns-2
 returns-2 c =
     let a = c .before .before .before .args in
-    sym (too-late (a .h) (a .round) (a .from) (a .to) (a .size) (omega arith) (c .if2 .taken))
+    sym (too-late (a .h) (a .round) (a .from) (a .to) (a .size) (omega arith) (omega arith))
 
 is-faulty-requires : tie.Need-is-faulty-requires
 is-faulty-requires c κs = search needs
@@ -46,9 +46,10 @@ returns-6 c =
 returns-7 : tie.Need-returns-7
 returns-7 c =
     let a = c .before .before .before .before .before .before .before .before .before .before .args in
-    let from = sym (c .before .before .before .before .before .before .is-faulty .ensures) ∙ not-false _ (c .before .before .before .before .before .if3 .left) in
+    let from = sym (c .before .before .before .before .before .before .is-faulty .ensures)
+    ∙ not-false _ (c .before .before .before .before .before .if3 .left) in
     let to = sym (c .before .before .is-faulty2 .ensures) ∙ c .before .if5 .left in
-    sym (by-size (a .h) (a .round) (a .from) (a .to) (a .size) (omega arith) (c .before .before .before .before .before .before .before .if2 .left) from (omega arith) to (omega arith))
+    sym (by-size (a .h) (a .round) (a .from) (a .to) (a .size) (omega arith) (omega arith) from (omega arith) to (omega arith))
 
 pub is-fitting-spec : {M : Type 1} → statement M
 is-fitting-spec =

@@ -23,7 +23,8 @@ past-requires-3 c κs = search needs
 returns : tie.Need-returns
 returns c =
     c .past3 .ensures
-    ∙ ap (past comma) (c .before .past2 .ensures ∙ ap (past comma) (c .before .before .past .ensures ∙ ap (past comma) (c .before .before .before .value .ensures)))
+    ∙ ap (past comma) (c .before .past2 .ensures ∙ ap (past comma) (c .before .before .past .ensures
+    ∙ ap (past comma) (c .before .before .before .value .ensures)))
 
 pub message-text-spec : {M : Type 1} → statement M
 message-text-spec =

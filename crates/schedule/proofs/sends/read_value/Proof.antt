@@ -36,8 +36,10 @@ enum-told-2 c = search needs
 returns-2 : tie.Need-returns-2
 returns-2 c =
     let v = now (c .before .before .before .before .before .before .before .before .before .args .v) in
-    let r = sym (c .before .before .before .before .before .before .before .read-field .ensures) ∙ c .before .before .before .before .before .round .given .1 in
-    sending-none (sendIn v) (send-two v _ (c .before .before .before .past .ensures) _ r (sym (c .before .before .read-field2 .ensures) ∙ c .enum-told2 .given .1))
+    let r = sym (c .before .before .before .before .before .before .before .read-field .ensures)
+    ∙ c .before .before .before .before .before .round .given .1 in
+    sending-none (sendIn v) (send-two v _ (c .before .before .before .past .ensures) _ r (sym (c .before .before .read-field2 .ensures)
+    ∙ c .enum-told2 .given .1))
 
 past-requires-2 : tie.Need-past-requires-2
 past-requires-2 c κs = search needs
@@ -54,16 +56,22 @@ enum-told-3 c = search needs
 returns-3 : tie.Need-returns-3
 returns-3 c =
     let v = now (c .before .before .before .before .before .before .before .before .before .before .before .before .before .before .args .v) in
-    let r = sym (c .before .before .before .before .before .before .before .before .before .before .before .before .read-field .ensures) ∙ c .before .before .before .before .before .before .before .before .before .before .round .given .1 in
-    let i = sym (c .before .before .before .before .before .before .before .read-field2 .ensures) ∙ c .before .before .before .before .before .from .given .1 in
-    sending-none (sendIn v) (send-three v _ (c .before .before .before .before .before .before .before .before .past .ensures) _ r _ (c .before .before .before .past2 .ensures) _ i (sym (c .before .before .read-field3 .ensures) ∙ c .enum-told3 .given .1))
+    let r = sym (c .before .before .before .before .before .before .before .before .before .before .before .before .read-field .ensures)
+    ∙ c .before .before .before .before .before .before .before .before .before .before .round .given .1 in
+    let i = sym (c .before .before .before .before .before .before .before .read-field2 .ensures)
+    ∙ c .before .before .before .before .before .from .given .1 in
+    sending-none (sendIn v) (send-three v _ (c .before .before .before .before .before .before .before .before .past .ensures) _ r _
+    (c .before .before .before .past2 .ensures) _ i (sym (c .before .before .read-field3 .ensures) ∙ c .enum-told3 .given .1))
 
 returns-4 : tie.Need-returns-4
 returns-4 c =
     let v = now (c .before .before .before .before .before .before .before .before .before .before .before .before .before .before .before .args .v) in
-    let r = sym (c .before .before .before .before .before .before .before .before .before .before .before .before .before .read-field .ensures) ∙ c .before .before .before .before .before .before .before .before .before .before .before .round .given .1 in
-    let i = sym (c .before .before .before .before .before .before .before .before .read-field2 .ensures) ∙ c .before .before .before .before .before .before .from .given .1 in
-    sending-some (sendIn v) _ (send-whole v _ (c .before .before .before .before .before .before .before .before .before .past .ensures) _ r _ (c .before .before .before .before .past2 .ensures) _ i _ (sym (c .before .before .before .read-field3 .ensures) ∙ c .before .to .given .1))
+    let r = sym (c .before .before .before .before .before .before .before .before .before .before .before .before .before .read-field .ensures)
+    ∙ c .before .before .before .before .before .before .before .before .before .before .before .round .given .1 in
+    let i = sym (c .before .before .before .before .before .before .before .before .read-field2 .ensures)
+    ∙ c .before .before .before .before .before .before .from .given .1 in
+    sending-some (sendIn v) _ (send-whole v _ (c .before .before .before .before .before .before .before .before .before .past .ensures) _ r _
+    (c .before .before .before .before .past2 .ensures) _ i _ (sym (c .before .before .before .read-field3 .ensures) ∙ c .before .to .given .1))
 
 pub read-value-spec : {M : Type 1} → statement M
 read-value-spec =

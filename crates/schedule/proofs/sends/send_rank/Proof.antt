@@ -9,8 +9,10 @@ use Rattle.schedule.proofs.sends.send_rank.Statement.{statement}
 use Rattle.schedule.proofs.sends.send_rank.Tie as tie
 
 -- what the send that was read tells
-told : (c : tie.After-known-told) → let v = c .before .round .given .0 in Told (now (c .before .before .before .before .before .args .line)) (v .0) (v .1 .0) (v .1 .1 .0)
-told c = sent-told (now (c .before .before .before .before .before .args .line)) _ _ _ (sym (c .before .round .given .1) ∙ c .before .before .before .read-send .ensures)
+told : (c : tie.After-known-told) → let v = c .before .round .given .0 in Told (now (c .before .before .before .before .before .args .line)) (v .0)
+    (v .1 .0) (v .1 .1 .0)
+told c = sent-told (now (c .before .before .before .before .before .args .line)) _ _ _ (sym (c .before .round .given .1)
+    ∙ c .before .before .before .read-send .ensures)
 
 read-send-requires : tie.Need-read-send-requires
 read-send-requires c κs = search needs
@@ -31,7 +33,8 @@ returns : tie.Need-returns
 returns c =
     let a = c .before .before .before .before .before .before .before .before .before .args in
     let t = told (c .before .before .before .before) in
-    rank-unfit (a .h) _ _ (t .is) (sym (fits-told (a .h) (now (a .line)) _ _ _ _ _ (c .before .before .before .message-text .ensures) (c .before .before .hex-size .ensures)) ∙ sym (c .before .is-fitting .ensures) ∙ not-true _ (c .if1 .taken))
+    rank-unfit (a .h) _ _ (t .is) (sym (fits-told (a .h) (now (a .line)) _ _ _ _ _ (c .before .before .before .message-text .ensures)
+    (c .before .before .hex-size .ensures)) ∙ sym (c .before .is-fitting .ensures) ∙ not-true _ (c .if1 .taken))
 
 mul-result : tie.Need-mul-result
 mul-result c =
@@ -60,7 +63,8 @@ returns-2 : tie.Need-returns-2
 returns-2 c =
     let a = c .before .before .before .before .before .before .before .before .before .args in
     let t = told (c .before .before .before .before) in
-    rank-fit (a .h) _ _ (t .is) (sym (fits-told (a .h) (now (a .line)) _ _ _ _ _ (c .before .before .before .message-text .ensures) (c .before .before .hex-size .ensures)) ∙ sym (c .before .is-fitting .ensures) ∙ not-false _ (c .if1 .left))
+    rank-fit (a .h) _ _ (t .is) (sym (fits-told (a .h) (now (a .line)) _ _ _ _ _ (c .before .before .before .message-text .ensures)
+    (c .before .before .hex-size .ensures)) ∙ sym (c .before .is-fitting .ensures) ∙ not-false _ (c .if1 .left))
 
 returns-3 : tie.Need-returns-3
 returns-3 c =

@@ -8,7 +8,7 @@ use Rattle.text.proofs.decimal.leading_zero.Statement.{statement}
 use Rattle.text.proofs.decimal.leading_zero.Tie as tie
 
 returns : tie.Need-returns
-returns c = sym (short-zero (now (c .before .args .s)) (c .if1 .taken))
+returns c = sym (short-zero (now (c .before .args .s)) (omega arith))
 
 shared-slice-read-result : tie.Need-shared-slice-read-result
 shared-slice-read-result c = search needs

@@ -39,7 +39,8 @@ enum-told-2 c = search needs
 returns-2 : tie.Need-returns-2
 returns-2 c =
     let s = now (c .before .before .before .before .before .before .before .before .before .args .s) in
-    let m = sym (c .before .before .before .before .before .before .before .read-field .ensures) ∙ c .before .before .before .before .before .meter .given .1 in
+    let m = sym (c .before .before .before .before .before .before .before .read-field .ensures)
+    ∙ c .before .before .before .before .before .meter .given .1 in
     sym (entry-two s _ (c .before .before .before .past .ensures) _ m (sym (c .before .before .read-field2 .ensures) ∙ c .enum-told2 .given .1))
 
 past-requires-2 : tie.Need-past-requires-2
@@ -57,18 +58,25 @@ enum-told-3 c = search needs
 returns-3 : tie.Need-returns-3
 returns-3 c =
     let s = now (c .before .before .before .before .before .before .before .before .before .before .before .before .before .before .args .s) in
-    let m = sym (c .before .before .before .before .before .before .before .before .before .before .before .before .read-field .ensures) ∙ c .before .before .before .before .before .before .before .before .before .before .meter .given .1 in
-    let i = sym (c .before .before .before .before .before .before .before .read-field2 .ensures) ∙ c .before .before .before .before .before .interval .given .1 in
-    sym (entry-three s _ (c .before .before .before .before .before .before .before .before .past .ensures) _ m _ (c .before .before .before .past2 .ensures) _ i (sym (c .before .before .read-number .ensures) ∙ c .enum-told3 .given .1))
+    let m = sym (c .before .before .before .before .before .before .before .before .before .before .before .before .read-field .ensures)
+    ∙ c .before .before .before .before .before .before .before .before .before .before .meter .given .1 in
+    let i = sym (c .before .before .before .before .before .before .before .read-field2 .ensures)
+    ∙ c .before .before .before .before .before .interval .given .1 in
+    sym (entry-three s _ (c .before .before .before .before .before .before .before .before .past .ensures) _ m _
+    (c .before .before .before .past2 .ensures) _ i (sym (c .before .before .read-number .ensures) ∙ c .enum-told3 .given .1))
 
 -- the three numbers are small
 small : (c : tie.After-known-told3)
-    → (c .before .before .before .before .before .before .before .before .before .before .before .meter .given .0 .0 ≤ halfMost) × (c .before .before .before .before .before .before .interval .given .0 .0 ≤ halfMost) × (c .before .watthours .given .0 .0 ≤ wordMost)
-small c = (
-  field-small dot halfMost (now (c .before .before .before .before .before .before .before .before .before .before .before .before .before .before .before .args .s)) _ (sym (c .before .before .before .before .before .before .before .before .before .before .before .meter .given .1) ∙ c .before .before .before .before .before .before .before .before .before .before .before .before .before .read-field .ensures),
-  field-small dot halfMost (now (c .before .before .before .before .before .before .before .before .before .past .result)) _ (sym (c .before .before .before .before .before .before .interval .given .1) ∙ c .before .before .before .before .before .before .before .before .read-field2 .ensures),
-  number-small wordMost (now (c .before .before .before .before .past2 .result)) _ (sym (c .before .watthours .given .1) ∙ c .before .before .before .read-number .ensures),
-)
+    → (c .before .before .before .before .before .before .before .before .before .before .before .meter .given .0 .0 ≤ halfMost) ×
+    (c .before .before .before .before .before .before .interval .given .0 .0 ≤ halfMost) × (c .before .watthours .given .0 .0 ≤ wordMost)
+small c =
+    let late = c .before .before .before .before .before in
+    let early = late .before .before .before .before .before in
+    let s = now (early .before .before .before .before .before .args .s) in
+    let m = field-small dot halfMost s _ (sym (early .before .meter .given .1) ∙ early .before .before .before .read-field .ensures) in
+    let i = field-small dot halfMost (now (late .before .before .before .before .past .result)) _ (sym (late .before .interval .given .1) ∙ late .before .before .before .read-field2 .ensures) in
+    let w = number-small wordMost (now (c .before .before .before .before .past2 .result)) _ (sym (c .before .watthours .given .1) ∙ c .before .before .before .read-number .ensures) in
+    (m, i, w)
 
 mul-t10 : tie.Need-mul-t10
 mul-t10 c = omega (arith, small c .0, small c .1)
@@ -85,9 +93,13 @@ add-t13 c = omega (arith, small c .0, small c .1, small c .2)
 returns-4 : tie.Need-returns-4
 returns-4 c =
     let s = now (c .before .before .before .before .before .before .before .before .before .before .before .before .before .before .before .args .s) in
-    let m = sym (c .before .before .before .before .before .before .before .before .before .before .before .before .before .read-field .ensures) ∙ c .before .before .before .before .before .before .before .before .before .before .before .meter .given .1 in
-    let i = sym (c .before .before .before .before .before .before .before .before .read-field2 .ensures) ∙ c .before .before .before .before .before .before .interval .given .1 in
-    sym (entry-whole s _ (c .before .before .before .before .before .before .before .before .before .past .ensures) _ m _ (c .before .before .before .before .past2 .ensures) _ i _ (sym (c .before .before .before .read-number .ensures) ∙ c .before .watthours .given .1))
+    let m = sym (c .before .before .before .before .before .before .before .before .before .before .before .before .before .read-field .ensures)
+    ∙ c .before .before .before .before .before .before .before .before .before .before .before .meter .given .1 in
+    let i = sym (c .before .before .before .before .before .before .before .before .read-field2 .ensures)
+    ∙ c .before .before .before .before .before .before .interval .given .1 in
+    sym (entry-whole s _ (c .before .before .before .before .before .before .before .before .before .past .ensures) _ m _
+    (c .before .before .before .before .past2 .ensures) _ i _ (sym (c .before .before .before .read-number .ensures)
+    ∙ c .before .watthours .given .1))
 
 pub read-entry-spec : {M : Type 1} → statement M
 read-entry-spec =

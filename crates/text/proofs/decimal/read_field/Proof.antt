@@ -15,7 +15,8 @@ returns : tie.Need-returns
 returns c = sym (field-none _ _ _ _ (c .before .place .ensures) (c .if1 .taken))
 
 slice-aggregate-read-number : tie.Need-slice-aggregate-read-number
-slice-aggregate-read-number c = sym (length-take-le (c .before .before .place .result) (now (c .before .before .before .before .args .s)) (omega arith))
+slice-aggregate-read-number c = sym (length-take-le (c .before .before .place .result) (now (c .before .before .before .before .args .s))
+    (omega arith))
 
 read-number-requires : tie.Need-read-number-requires
 read-number-requires c κs = search needs

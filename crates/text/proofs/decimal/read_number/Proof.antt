@@ -34,7 +34,8 @@ digit-requires : tie.Need-digit-requires Inv-loop μ-loop
 digit-requires c κs = search needs
 
 returns-3 : tie.Need-returns-3 Inv-loop μ-loop
-returns-3 c = sym (c .before .before .before .before .loop .inv .2 ∙ number-stop _ _ _ _ _ (c .before .digit .ensures .0) (c .before .before .before .loop-test .taken) (c .if3 .taken))
+returns-3 c = sym (c .before .before .before .before .loop .inv .2
+    ∙ number-stop _ _ _ _ _ (c .before .digit .ensures .0) (c .before .before .before .loop-test .taken) (c .if3 .taken))
 
 mul-next : tie.Need-mul-next Inv-loop μ-loop
 mul-next c = search needs

@@ -35,7 +35,8 @@ same-length c = search needs
 returns-3 : tie.Need-returns-3
 returns-3 c =
     let a = c .before .before .before .before .before .before .before .before .before .args in
-    let h = sym (c .before .before .before .before .before .before .is-hex .ensures) ∙ not-false _ (c .before .before .before .before .before .if1 .left) in
+    let h = sym (c .before .before .before .before .before .before .is-hex .ensures)
+    ∙ not-false _ (c .before .before .before .before .before .if1 .left) in
     put-hex (now (a .s)) (now (a .output)) _ _ h (omega arith) (c .before .before .pairs-into .ensures .0) (c .before .before .pairs-into .ensures .1)
 
 pub hex-into-spec : {M : Type 1} → statement M

@@ -46,7 +46,11 @@ cast-output c =
     let l = c .before .before .before .before .before .loop in
     let a = c .before .before .before .before .before .before .before .before .args in
     let inside = l .inv .inside in
-    omega (arith, hex-byte (now (a .s)) (now (a .output)) (l .output) (l .i) (l .at) (l .inv) (omega arith) _ _ (c .before .before .digit .ensures .0) (c .digit2 .ensures .0))
+    omega (
+      arith,
+      hex-byte (now (a .s)) (now (a .output)) (l .output) (l .i) (l .at) (l .inv) (omega arith) _ _
+          (c .before .before .digit .ensures .0) (c .digit2 .ensures .0),
+    )
 
 slice-write-output : tie.Need-slice-write-output Inv-loop μ-loop
 slice-write-output c =
@@ -73,7 +77,8 @@ loop-again c =
     let l = c .before .before .before .before .before .loop in
     let a = c .before .before .before .before .before .before .before .before .args in
     let inside = l .inv .inside in
-    hex-turn (now (a .s)) (now (a .output)) (l .output) (l .i) (l .at) (l .inv) (omega arith) _ _ (c .before .before .digit .ensures .0) (c .digit2 .ensures .0)
+    hex-turn (now (a .s)) (now (a .output)) (l .output) (l .i) (l .at) (l .inv) (omega arith) _ _ (c .before .before .digit .ensures .0)
+    (c .digit2 .ensures .0)
 
 same-length : tie.Need-same-length Inv-loop μ-loop
 same-length c = c .before .loop .inv .kept

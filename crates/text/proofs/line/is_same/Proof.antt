@@ -47,7 +47,8 @@ loop-again c =
     (omega arith, l .inv .1, l .inv .2 ∙ here-alike (now (a .a)) (now (a .b)) (l .i) (omega arith) (omega arith) (c .if2 .left))
 
 returns-3 : tie.Need-returns-3 Inv-loop μ-loop
-returns-3 c = sym (c .before .loop .inv .2 ∙ both-passed (now (c .before .before .before .args .a)) (now (c .before .before .before .args .b)) (c .before .loop .i) (omega arith) (omega arith))
+returns-3 c = sym (c .before .loop .inv .2 ∙ both-passed (now (c .before .before .before .args .a)) (now (c .before .before .before .args .b))
+    (c .before .loop .i) (omega arith) (omega arith))
 
 pub is-same-spec : {M : Type 1} → statement M
 is-same-spec =

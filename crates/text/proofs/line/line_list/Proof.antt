@@ -19,7 +19,8 @@ no-list-requires c κs = search needs
 returns : tie.Need-returns
 returns c =
     let a = c .before .before .before .before .before .args in
-    c .no-list .ensures ∙ ap listedAs (sym (list-line-no (now (a .key)) (now (a .line)) _ (sym (c .before .before .keyed .ensures) ∙ not-true _ (c .before .if1 .taken))))
+    c .no-list .ensures ∙ ap listedAs (sym (list-line-no (now (a .key)) (now (a .line)) _ (sym (c .before .before .keyed .ensures)
+    ∙ not-true _ (c .before .if1 .taken))))
 
 value-requires : tie.Need-value-requires
 value-requires c κs = search needs
@@ -31,7 +32,8 @@ returns-2 : tie.Need-returns-2
 returns-2 c =
     let a = c .before .before .before .before .before .before .args in
     c .read-list .ensures ∙ ap (λ (v : List ℕ). listedAs (listOf (a .kind) v)) (c .before .value .ensures)
-    ∙ ap listedAs (sym (list-line-yes (now (a .key)) (now (a .line)) _ (sym (c .before .before .before .keyed .ensures) ∙ not-false _ (c .before .before .if1 .left))))
+    ∙ ap listedAs (sym (list-line-yes (now (a .key)) (now (a .line)) _ (sym (c .before .before .before .keyed .ensures)
+    ∙ not-false _ (c .before .before .if1 .left))))
 
 pub line-list-spec : {M : Type 1} → statement M
 line-list-spec =

@@ -26,7 +26,8 @@ returns-2 : tie.Need-returns-2
 returns-2 c =
     let a = c .before .before .before .before .before .before .args in
     c .read-number .ensures ∙ ap (numberOf (a .most)) (c .before .value .ensures)
-    ∙ sym (number-line-yes (now (a .key)) (now (a .line)) _ (sym (c .before .before .before .keyed .ensures) ∙ not-false _ (c .before .before .if1 .left)))
+    ∙ sym (number-line-yes (now (a .key)) (now (a .line)) _ (sym (c .before .before .before .keyed .ensures)
+    ∙ not-false _ (c .before .before .if1 .left)))
 
 pub line-number-spec : {M : Type 1} → statement M
 line-number-spec =

@@ -33,7 +33,8 @@ returns : tie.Need-returns Inv-loop μ-loop
 returns c =
     let s = now (c .before .before .before .before .before .args .s) in
     let l = c .before .before .before .loop in
-    ap linesOf (rest-of s (l .at)) ∙ lines-over s (l .at) (l .i) (c .before .before .before .before .before .args .k) (c .before .if1 .taken) (omega arith) (l .inv .2)
+    ap linesOf (rest-of s (l .at)) ∙ lines-over s (l .at) (l .i) (c .before .before .before .before .before .args .k) (c .before .if1 .taken)
+    (omega arith) (l .inv .2)
 
 sub-line-len : tie.Need-sub-line-len Inv-loop μ-loop
 sub-line-len c = search needs

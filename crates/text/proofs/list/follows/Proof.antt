@@ -1,5 +1,6 @@
--- Any item may come first.
-use borrow.Author.Tests.{eq-eqb, ne-eqb}
+-- Any item may come first; another must be above the one before.
+use native.Mathlib.Omega.{arith}
+use borrow.Author.Tests.{eq-eqb, le-ltb, lt-ltb, ne-eqb}
 use Rattle.text.proofs.list.follows.Statement.{statement}
 use Rattle.text.proofs.list.follows.Tie as tie
 
@@ -7,7 +8,14 @@ returns : tie.Need-returns
 returns c = simp (eq-eqb _ _ (c .if1 .taken))
 
 returns-2 : tie.Need-returns-2
-returns-2 c = simp (ne-eqb _ _ (c .if1 .left))
+returns-2 c =
+    let a = c .before .before .args in
+    simp (ne-eqb _ _ (c .before .if1 .left), le-ltb (a .last) (a .x) (omega arith))
+
+returns-3 : tie.Need-returns-3
+returns-3 c =
+    let a = c .before .before .args in
+    simp (ne-eqb _ _ (c .before .if1 .left), lt-ltb (a .last) (a .x) (omega arith))
 
 pub follows-spec : {M : Type 1} → statement M
-follows-spec = tie.close (tie.spec returns returns-2)
+follows-spec = tie.close (tie.spec returns returns-2 returns-3)

@@ -23,12 +23,14 @@ returns c =
 returns-2 : tie.Need-returns-2
 returns-2 c =
     let a = c .before .before .before .before .before .before .args in
-    sym (below-over (a .n) (now (a .s)) _ (sym (c .before .before .before .before .read-number .ensures) ∙ c .before .before .v .given .1) (c .if1 .taken))
+    sym (below-over (a .n) (now (a .s)) _ (sym (c .before .before .before .before .read-number .ensures)
+    ∙ c .before .before .v .given .1) (c .if1 .taken))
 
 returns-3 : tie.Need-returns-3
 returns-3 c =
     let a = c .before .before .before .before .before .before .args in
-    sym (below-in (a .n) (now (a .s)) _ (sym (c .before .before .before .before .read-number .ensures) ∙ c .before .before .v .given .1) (c .if1 .left))
+    sym (below-in (a .n) (now (a .s)) _ (sym (c .before .before .before .before .read-number .ensures)
+    ∙ c .before .before .v .given .1) (c .if1 .left))
 
 pub read-below-spec : {M : Type 1} → statement M
 read-below-spec =

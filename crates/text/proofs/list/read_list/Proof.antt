@@ -2,6 +2,7 @@
 use Prim.Native.Nat.{_-_, ℕ}
 use mathlib.Core.List.{List, []}
 use mathlib.Core.Path.{_∙_, ap, refl, sym}
+use native.Mathlib.Omega.{arith}
 use denote.Ref.{now}
 use borrow.Author.Needs.{needs}
 use borrow.Author.Tests.{not-false, not-true}
@@ -90,7 +91,7 @@ mul-items : tie.Need-mul-items Inv-loop μ-loop
 mul-items c = search needs
 
 array-write-items : tie.Need-array-write-items Inv-loop μ-loop
-array-write-items c = search needs
+array-write-items c = omega arith
 
 add-count : tie.Need-add-count Inv-loop μ-loop
 add-count c = search needs
@@ -102,7 +103,7 @@ returns-4 c =
     let p = c .before .before .before .before .before .before .before .before .place .ensures in
     let x = sym (c .before .before .before .before .before .before .read-item .ensures) ∙ c .before .before .before .before .x .given .1 in
     let o = sym (c .before .before .follows .ensures) ∙ not-false _ (c .before .if2 .left) in
-    item-last _ s _ _ _ _ (l .inv) (rest s (l .at)) (rest-of s (l .at)) _ p _ x o (c .before .before .before .before .before .before .before .before .before .before .loop-test .taken) (c .if3 .taken)
+    item-last _ s _ _ _ _ (l .inv) (rest s (l .at)) (rest-of s (l .at)) _ p _ x o (omega arith) (c .if3 .taken)
 
 add-at : tie.Need-add-at Inv-loop μ-loop
 add-at c = search needs
@@ -120,7 +121,7 @@ loop-again c =
     let p = c .before .before .before .before .before .before .before .before .place .ensures in
     let x = sym (c .before .before .before .before .before .before .read-item .ensures) ∙ c .before .before .before .before .x .given .1 in
     let o = sym (c .before .before .follows .ensures) ∙ not-false _ (c .before .if2 .left) in
-    item-next _ s _ _ _ _ (l .inv) (rest s (l .at)) (rest-of s (l .at)) _ p _ x o (c .before .before .before .before .before .before .before .before .before .before .loop-test .taken) (c .if3 .left)
+    item-next _ s _ _ _ _ (l .inv) (rest s (l .at)) (rest-of s (l .at)) _ p _ x o (omega arith) (c .if3 .left)
 
 no-list-requires-3 : tie.Need-no-list-requires-3 Inv-loop μ-loop
 no-list-requires-3 c κs = search needs

@@ -10,10 +10,18 @@ place-requires : tie.Need-place-requires
 place-requires c κs = search needs
 
 sub-result : tie.Need-sub-result
-sub-result c = omega (arith, place-within (c .before .before .before .args .c) _ (now (c .before .before .before .args .s)) (c .before .place .ensures))
+sub-result c = omega (
+  arith,
+  place-within (c .before .before .before .args .c) _ (now (c .before .before .before .args .s))
+      (c .before .place .ensures),
+)
 
 part-result-start : tie.Need-part-result-start
-part-result-start c = omega (arith, place-within (c .before .before .before .args .c) _ (now (c .before .before .before .args .s)) (c .before .place .ensures))
+part-result-start c = omega (
+  arith,
+  place-within (c .before .before .before .args .c) _ (now (c .before .before .before .args .s))
+      (c .before .place .ensures),
+)
 
 part-result-end : tie.Need-part-result-end
 part-result-end c = search needs
