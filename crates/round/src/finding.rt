@@ -3,6 +3,7 @@ ghost use mathlib.Core.Path.{_≡_};
 ghost use Rattle.round.specs.Found.{Begin, TakeInbox, TakeMessage, takesUp};
 use crate::Found;
 use crate::keeping::batch_from;
+use crate::keeping::is_new;
 use crate::keeping::is_wanted;
 use crate::keeping::keep;
 use node::Kept;
@@ -54,7 +55,10 @@ fn take_message(
             } => {
                 if is_wanted(me, round, primary, mask, after[primary].kept.count) {
                     let batch = batch_from(wire::batch_bytes(n, part));
-                    after[primary] = keep(after[primary], mask, batch);
+                    let its = after[primary];
+                    if is_new(its, batch) {
+                        after[primary] = keep(its, mask, batch);
+                    }
                 }
                 at = at + next;
             }

@@ -1,7 +1,7 @@
--- Before each record: what takes up the votes that are left takes up all. A record's vote changes what is found for its primary, if it is wanted.
+-- Before each record: what takes up the votes that are left takes up all. A record's vote changes what is found for its primary, if it is wanted and its batch is new.
 use Rattle.rules.specs.Step.{others}
 use Prim.Native.Nat.{_-_, _≤_, _<_}
-use mathlib.Core.Path.{ap, subst, _∙_}
+use mathlib.Core.Path.{sym, ap, subst, _∙_}
 use mathlib.Core.Logic.{⊎-elim}
 use mathlib.Core.List.{[], _∷_}
 use native.Mathlib.Omega.{arith}
@@ -15,7 +15,8 @@ use Rattle.wire.specs.Reader.{ReadRecord}
 use Rattle.wire.proofs.Readings.{Told, vote-told, unreadable-told, refused-told, readable-whole}
 use Rattle.node.specs.Batches.{batchOf as batchHeld}
 use Rattle.round.specs.Found.{Take}
-use Rattle.round.proofs.Takes.{vote-left, vote-kept}
+use Rattle.round.proofs.Keeps.{keep-none}
+use Rattle.round.proofs.Takes.{vote-left, vote-kept, vote-held}
 use Rattle.round.proofs.Messages.{ends-within, few-bytes, its-batch, Reached, at-start, next-vote, no-vote, at-end, no-nodes}
 use borrow.Author.Needs.{needs}
 use Rattle.round.proofs.finding.take_message.Statement.{statement}
@@ -60,11 +61,16 @@ turn c =
     let v : Vote = record { primary = p .0; mask = p .1 .0; batch = batchOf s } in
     let h = low (c .before .before) in
     let wants = c .before .is-wanted .ensures in
+    let told-so = told (c .before .before) in
     ⊎-elim
     (λ w.
-    let b = w .2 .ensures ∙ ap batchHeld (its-batch (a .n) s _ _ _ _ _ (told (c .before .before)) (rw rest-of at (w .1 .ensures))) in
-    vote-kept (a .me) (a .round) (l .after) _ v h (c .if1 .after) _ wants (w .0 .taken) (w .2 .result) (w .4 .result) b (w .4 .ensures) (w .5))
-    (λ w. vote-left (a .me) (a .round) (l .after) _ v h (c .if1 .after) _ wants (w .0 .left) (w .1))
+    let b = w .2 .ensures ∙ ap batchHeld (its-batch (a .n) s _ _ _ _ _ told-so (rw rest-of at (w .1 .ensures))) in
+    vote-kept (a .me) (a .round) (l .after) _ v h (c .if1 .after) _ wants (w .0 .taken) (w .2 .result) (w .6 .result) b (w .6 .ensures) (w .7))
+    (⊎-elim
+    (λ w.
+    let b = w .2 .ensures ∙ ap batchHeld (its-batch (a .n) s _ _ _ _ _ told-so (rw rest-of at (w .1 .ensures))) in
+    vote-held (a .me) (a .round) (l .after) _ v h (c .if1 .after) _ wants (w .0 .taken) (w .2 .result) b (keep-none _ _ _ (sym (w .4 .ensures) ∙ w .5 .left)) (w .6))
+    (λ w. vote-left (a .me) (a .round) (l .after) _ v h (c .if1 .after) _ wants (w .0 .left) (w .1)))
     (c .if1 .came)
 
 loop-holds : tie.Need-loop-holds Inv-loop μ-loop
@@ -105,20 +111,23 @@ batch-from-requires c κs =
     let l = c .before .before .before .before .before .before .before .before .before .loop in
     few-bytes (a .n) (drop (l .at) (now (a .message))) _ _ _ _ _ (told (c .before .before .before)) (rw rest-of at (c .batch-bytes .ensures))
 
-mul-keep : tie.Need-mul-keep Inv-loop μ-loop
-mul-keep c = let h = low (c .before .before .before .before) in omega arith
+mul-its : tie.Need-mul-its Inv-loop μ-loop
+mul-its c = let h = low (c .before .before .before .before) in omega arith
 
-array-copy-out-keep : tie.Need-array-copy-out-keep Inv-loop μ-loop
-array-copy-out-keep c = let h = low (c .before .before .before .before) in omega arith
+array-copy-out-its : tie.Need-array-copy-out-its Inv-loop μ-loop
+array-copy-out-its c = let h = low (c .before .before .before .before) in omega arith
+
+is-new-requires : tie.Need-is-new-requires Inv-loop μ-loop
+is-new-requires c κs = search needs
 
 keep-requires : tie.Need-keep-requires Inv-loop μ-loop
-keep-requires c κs = search needs
+keep-requires c κs = sym (c .before .is-new .ensures) ∙ c .if2 .taken
 
 mul-after : tie.Need-mul-after Inv-loop μ-loop
-mul-after c = let h = low (c .before .before .before .before .before .before) in omega arith
+mul-after c = let h = low (c .before .before .before .before .before .before .before .before) in omega arith
 
 array-set-from-after : tie.Need-array-set-from-after Inv-loop μ-loop
-array-set-from-after c = let h = low (c .before .before .before .before .before .before) in omega arith
+array-set-from-after c = let h = low (c .before .before .before .before .before .before .before .before) in omega arith
 
 add-at : tie.Need-add-at Inv-loop μ-loop
 add-at c = let t = within (c .before .before) in omega arith
@@ -176,8 +185,9 @@ take-message-spec =
     is-wanted-requires
     batch-bytes-requires
     batch-from-requires
-    mul-keep
-    array-copy-out-keep
+    mul-its
+    array-copy-out-its
+    is-new-requires
     keep-requires
     mul-after
     array-set-from-after
