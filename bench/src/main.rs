@@ -1,5 +1,7 @@
-//! Times of the proved calls. So far: a step at n = 16 on 15 full messages against the plain loop of plain.rs, same inputs, one run.
+//! Times of the proved calls and the stack that they take. So far: a step at n = 16 on 15 full messages against the plain loop of plain.rs, same inputs,
+//! one run.
 mod plain;
+mod stack;
 
 use plain::{Batch, Kept, State, MESSAGE, NODES};
 use raudokiin::calls;
@@ -111,6 +113,10 @@ fn step_against_plain(name: &str, says: Says) {
     };
     let (proved, plain) = micros(turn, plain_turn);
     println!("step, n = 16, 15 messages of 3,960 bytes, {name}: proved {proved:.1} µs, plain {plain:.1} µs, ratio {:.2}", proved / plain);
+    let bytes = stack::high_water(|| {
+        black_box(calls::step(*black_box(&node), black_box(&inbox), black_box(&mut outbox)).number);
+    });
+    println!("stack of that step: {bytes} bytes");
 }
 
 fn main() {

@@ -22,7 +22,7 @@ use Rattle.wire.specs.Reader.{BatchBytes}
 use Rattle.wire.specs.Message.{before, votesAfter, votesOf, silent}
 use Rattle.wire.proofs.Readings.{Told, readable-whole}
 use Rattle.wire.proofs.Messages.{none-left, one-more, stuck, too-long, short-enough}
-use Rattle.round.specs.Found.{votesIn, Take, TakeMessage}
+use Rattle.round.specs.Found.{votesIn, Take}
 use Rattle.round.specs.declared.Found.{Found}
 use Rattle.round.proofs.Takes.{take-none, take-join}
 
@@ -76,17 +76,21 @@ heard-short n s h =
 abbrev left : (n : ℕ) (s : List ℕ) (a : ℕ) → Option (List Vote)
 left n s a = votesAfter n 0 (drop a s)
 
+-- the votes of a message that is readable are taken up
+pub record TakeMessage (n me r : ℕ) (before : List Found) (s : List ℕ) (after : List Found) : Type 0 where
+  pub readable : sized n ≡ true → silent (votesOf n s) ≡ false → Take r before after (others me (votesIn (votesOf n s)))
+
 -- the records before place a are passed
 pub record Reached (n me r : ℕ) (s : List ℕ) (found after : List Found) (a : ℕ) : Type 0 where
-  pub readable : silent (votesOf n s) ≡ false → silent (left n s a) ≡ false
-  pub goes : silent (votesOf n s) ≡ false → (result : List Found) → Take r after result (others me (votesIn (left n s a)))
+  pub readable : sized n ≡ true → silent (votesOf n s) ≡ false → silent (left n s a) ≡ false
+  pub goes : sized n ≡ true → silent (votesOf n s) ≡ false → (result : List Found) → Take r after result (others me (votesIn (left n s a)))
       → Take r found result (others me (votesIn (votesOf n s)))
 
 module _ (n me r : ℕ) (s : List ℕ) (found : List Found) where
   pub at-start : Reached n me r s found found 0
   at-start = record {
-    readable = λ h. ap silent (sym (heard-short n s h)) ∙ h;
-    goes = λ h result t. subst (λ (o : Option (List Vote)). Take r found result (others me (votesIn o))) (sym (heard-short n s h)) t;
+    readable = λ nodes h. ap silent (sym (heard-short n s h)) ∙ h;
+    goes = λ nodes h result t. subst (λ (o : Option (List Vote)). Take r found result (others me (votesIn o))) (sym (heard-short n s h)) t;
   }
 
   module _ (after : List Found) (a : ℕ) (here : Reached n me r s found after a) where
@@ -102,27 +106,29 @@ module _ (n me r : ℕ) (s : List ℕ) (found : List Found) where
         ∙ ap (λ (u : Vote). before u (votesAfter n 0 (drop (sizeOf (drop a s)) (drop a s)))) says
         ∙ ap (λ (u : List ℕ). before v (votesAfter n 0 u)) (ap (λ (j : ℕ). drop j (drop a s)) (sym (told .next)) ∙ drop-drop x a s) in
         let heard : silent (votesOf n s) ≡ false → silent rest ≡ false =
-        λ h. sym (ap silent e ∙ silent-before v rest) ∙ here .readable h in
+        λ h. sym (ap silent e ∙ silent-before v rest) ∙ here .readable (told .nodes) h in
         record {
-          readable = heard;
-          goes = λ h result u.
-              here .goes h result
+          readable = λ nodes h. heard h;
+          goes = λ nodes h result u.
+              here .goes nodes h result
               (subst (λ (l : List Vote). Take r after result l) (others-before me v rest (heard h) ∙ ap (λ (o : Option (List Vote)). others me (votesIn o)) (sym e))
               (take-join r after next result (others me (v ∷ [])) (others me (votesIn rest)) t u));
         }
 
     -- an unreadable record is in no readable message
-    pub no-vote : a < length s → unreadable n (drop a s) ≡ true → TakeMessage n me r found s after
-    no-vote l u = record {
-      readable = λ nodes h. absurd (clash (ap silent (stuck n (drop a s) (omega (arith, length-drop a s)) u)) (here .readable h));
-    }
+    pub no-vote : a < length s → unreadable n (drop a s) ≡ true → (b : ℕ) → Reached n me r s found after b
+    no-vote l u b = record { readable = λ nodes h. absurd (never nodes h); goes = λ nodes h. absurd (never nodes h) }
+      where
+        never : sized n ≡ true → silent (votesOf n s) ≡ false → ⊥
+        never nodes h = clash (ap silent (stuck n (drop a s) (omega (arith, length-drop a s)) u)) (here .readable nodes h)
 
     pub at-end : length s ≤ a → TakeMessage n me r found s after
     at-end l = record {
       readable = λ nodes h.
           let e : left n s a ≡ some [] = none-left n (drop a s) (omega (arith, length-drop a s)) in
-          here .goes h after (subst (λ (o : Option (List Vote)). Take r after after (others me (votesIn o))) (sym e) (take-none r after));
+          here .goes nodes h after (subst (λ (o : Option (List Vote)). Take r after after (others me (votesIn o))) (sym e) (take-none r after));
     }
 
-  pub no-nodes : (after : List Found) → sized n ≡ false → TakeMessage n me r found s after
-  no-nodes after e = record { readable = λ nodes h. absurd (clash nodes e) }
+  -- no record is read at a number of nodes that is refused
+  pub no-nodes : (after : List Found) (b : ℕ) → sized n ≡ false → Reached n me r s found after b
+  no-nodes after b e = record { readable = λ nodes h. absurd (clash nodes e); goes = λ nodes h. absurd (clash nodes e) }

@@ -9,6 +9,7 @@ use borrow.Author.Tests.{eq-eqb, ne-eqb, eqb-true, eqb-false, not-true}
 use lib.Count.{ones}
 use lib.Dec.{eqb, ltb, leb}
 use lib.ListN.{length, getD, set}
+use lib.Seq.{set-getD}
 use Rattle.laws.specs.Masks.{bit}
 use Rattle.laws.specs.Members.{among}
 use Rattle.laws.proofs.Tests.{clash, both}
@@ -129,3 +130,8 @@ module _ (me r : ℕ) (found : List Found) (d : Found) (v : Vote) (low : v .prim
             ∙ each-set (foundAt r kept votes) (foundAt r kept (votes ++ (v ∷ []))) d x nodesMost (v .primary) low (kept-as kept votes b)
             (λ q n. unmoved r kept votes v q (other-primary keptMost r q (keptAfter keptMost r q (kept q) votes) v (λ i. n (sym i))));
       }
+
+  -- where what is found for its primary stays, all of it does
+  pub vote-held : (after : List Found) (t : Bool) → t ≡ test → t ≡ true → (b : BatchHeld) → b ≡ batchOf (v .batch)
+      → Keep (getD found (v .primary) d) (v .mask) b (getD found (v .primary) d) → after ≡ found → Take r found after (others me (v ∷ []))
+  vote-held after t told so b h k same = vote-kept after t told so b (getD found (v .primary) d) h k (same ∙ sym (set-getD found (v .primary) d))

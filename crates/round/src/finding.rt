@@ -1,8 +1,9 @@
 // The votes of an inbox, taken up one after the other.
 ghost use mathlib.Core.Path.{_≡_};
-ghost use Rattle.round.specs.Found.{Begin, TakeInbox, TakeMessage, takesUp};
+ghost use Rattle.round.specs.Found.{Begin, TakeInbox, takesUp};
 use crate::Found;
 use crate::keeping::batch_from;
+use crate::keeping::is_new;
 use crate::keeping::is_wanted;
 use crate::keeping::keep;
 use node::Kept;
@@ -29,44 +30,6 @@ pub fn begin(kept: [Kept; rules::NODES_MOST]) -> [Found; rules::NODES_MOST]
         p += 1;
     }
     found
-}
-
-// The votes of a readable message, but those of which the node is itself the primary.
-fn take_message(
-    n: usize,
-    me: usize,
-    round: usize,
-    found: [Found; rules::NODES_MOST],
-    message: &[u8],
-) -> [Found; rules::NODES_MOST]
-    ensures { λ r. ⌜ TakeMessage n me round found (now (message .entry)) r ⌝ }
-{
-    let mut after = found;
-    let mut at: usize = 0;
-    while at < message.len() {
-        let part = &message[at..];
-        match wire::read_record(n, part) {
-            Record::Vote {
-                primary,
-                mask,
-                count: _,
-                next,
-            } => {
-                if is_wanted(me, round, primary, mask, after[primary].kept.count) {
-                    let batch = batch_from(wire::batch_bytes(n, part));
-                    after[primary] = keep(after[primary], mask, batch);
-                }
-                at = at + next;
-            }
-            Record::Unreadable => {
-                return after;
-            }
-            Record::Refused => {
-                return after;
-            }
-        }
-    }
-    after
 }
 
 // Whether a sender's message is taken up: it is another's, and readable.
@@ -102,8 +65,34 @@ pub fn take_inbox(
             return after;
         };
         if is_heard(me, sender, unreadable) {
-            let taken = take_message(n, me, round, after, &inbox[start..end]);
-            after = taken;
+            let message = &inbox[start..end];
+            let mut place: usize = 0;
+            while place < message.len() {
+                let part = &message[place..];
+                match wire::read_record(n, part) {
+                    Record::Vote {
+                        primary,
+                        mask,
+                        count: _,
+                        next,
+                    } => {
+                        if is_wanted(me, round, primary, mask, after[primary].kept.count) {
+                            let batch = batch_from(wire::batch_bytes(n, part));
+                            let its = after[primary];
+                            if is_new(its, batch) {
+                                after[primary] = keep(its, mask, batch);
+                            }
+                        }
+                        place = place + next;
+                    }
+                    Record::Unreadable => {
+                        place = message.len();
+                    }
+                    Record::Refused => {
+                        place = message.len();
+                    }
+                }
+            }
         }
         at = end;
         sender = sender + 1;

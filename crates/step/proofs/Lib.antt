@@ -1,4 +1,3 @@
-pub mod Collecting
 pub mod Outboxes
 pub mod PassedVotes
 pub mod Steps

@@ -1,8 +1,8 @@
 -- Soundness is kept by a step: what was kept was right, and what is newly kept is the batch of a vote taken up, so a batch, of a primary below n that is not
 -- the node itself; the rules keep at most two, different; and a phase that names a round is at most f + 1, so the next is at most f + 2.
-use Prim.Native.Nat.{ℕ, zero, suc, _+_, _^_, _≤_, _<_}
+use Prim.Native.Nat.{ℕ, zero, suc, _+_, _≤_, _<_}
 use mathlib.Core.Path.{_≡_, refl, ap, ap₂, subst, _∙_}
-use mathlib.Core.Logic.{_≢_, inl, ⊎-elim}
+use mathlib.Core.Logic.{_≢_, inl}
 use mathlib.Core.Bool.{Bool, true, false, not, _&&_, and-false}
 use mathlib.Core.List.{List, [], _∷_, _++_}
 use native.Mathlib.Omega.{arith}
@@ -10,27 +10,20 @@ use borrow.Author.Tests.{leb-true, lt-ltb, ne-eqb}
 use lib.Dec.{leb, ltb, eqb}
 use lib.ListN.{length}
 use Rattle.laws.specs.Members.{In}
-use Rattle.laws.proofs.Members.{in-either, map-in}
 use Rattle.laws.proofs.Tests.{clash, both}
-use Rattle.rules.specs.Sizes.{isBatch}
 use Rattle.rules.specs.Refusals.{ifDone}
 use Rattle.rules.specs.Vote.{Vote, batches}
-use Rattle.rules.specs.Step.{keptMost, newly}
-use Rattle.rules.proofs.Votes.{accepted-says}
-use Rattle.rules.proofs.Newly.{newly-new, after-few}
 use Rattle.rules.proofs.Inbox.{taken-of}
-use Rattle.wire.specs.Writer.{sayable}
 use Rattle.wire.proofs.Writings.{said}
 use Rattle.node.specs.Batches.{entriesOf, batchOf}
-use Rattle.node.specs.State.{keptFor, mayKeep, soundNode, nodeOf}
+use Rattle.node.specs.State.{mayKeep, soundNode, nodeOf}
 use Rattle.node.specs.declared.Batch.{Batch}
 use Rattle.node.specs.declared.Node.{Node}
-use Rattle.node.proofs.Lists.{Keepable}
 use Rattle.node.proofs.Sound.{Right, sound-right, sound-is-of, of-is-sound}
 use Rattle.round.specs.Found.{heardFrom}
-use Rattle.step.specs.Step.{takenBy, keptBy, steppedNode, inRounds, stepNumber, Step}
+use Rattle.step.specs.Step.{keptBy, steppedNode, inRounds, stepNumber, Step}
 use Rattle.step.specs.declared.Stepped.{Stepped}
-use Rattle.step.proofs.PassedVotes.{taken-sayable}
+use Rattle.step.proofs.PassedVotes.{taken-sayable, newFor, new-read, new-of, kept-keepable}
 use Rattle.step.proofs.Steps.{step-found, rounds-told}
 
 -- ---- for whom something may be kept
@@ -47,48 +40,20 @@ module _ (n me r p : ℕ) (l : 1 ≤ r) where
 
 -- ---- what a step newly keeps
 
-sayable-batch : (n : ℕ) (v : Vote) → sayable n v ≡ true → isBatch (v .batch) ≡ true
-unfolding sayable
-sayable-batch n v h =
-    let t = both (ltb (v .primary) n) (ltb (v .mask) (2 ^ n) && isBatch (v .batch)) h in
-    both (ltb (v .mask) (2 ^ n)) (isBatch (v .batch)) (t .1) .1
-
 no-members : {A : Type 0} (l : List A) → ((x : A) → In x l → ⊥) → l ≡ []
 no-members [] h = refl
 no-members (x ∷ l) h = absurd (h x (inl refl))
 
 module _ (s : Node) (inbox : List ℕ) where
-  -- the votes by which batches are newly kept for primary p
-  abbrev newFor : ℕ → List Vote
-  newFor p = newly keptMost (s .phase) p (keptFor s p) (takenBy s inbox)
-
-  new-read : (p : ℕ) (v : Vote) → In v (newFor p) → In v (takenBy s inbox)
-  new-read p v i = newly-new keptMost (s .phase) p (keptFor s p) (takenBy s inbox) v i .read
-
-  new-of : (p : ℕ) (v : Vote) → In v (newFor p) → v .primary ≡ p
-  new-of p v i = accepted-says (s .phase) p v (newly-new keptMost (s .phase) p (keptFor s p) (takenBy s inbox) v i .taken) .of
-
-  new-for-other : (p : ℕ) (v : Vote) → In v (newFor p) → (p < s .n) × (p ≢ s .me)
+  new-for-other : (p : ℕ) (v : Vote) → In v (newFor s inbox p) → (p < s .n) × (p ≢ s .me)
   new-for-other p v i =
-      let k = new-read p v i in
+      let k = new-read s inbox p v i in
       let t = taken-of (s .n) (s .me) (heardFrom (s .n) inbox) v k in
-      (subst (λ (q : ℕ). q < s .n) (new-of p v i) (said (s .n) v (taken-sayable s inbox v k) .primary), λ e. t .not-own (new-of p v i ∙ e))
+      (subst (λ (q : ℕ). q < s .n) (new-of s inbox p v i) (said (s .n) v (taken-sayable s inbox v k) .primary), λ e. t .not-own (new-of s inbox p v i ∙ e))
 
-  new-none : (p : ℕ) → 1 ≤ s .phase → mayKeep (s .n) (s .me) (s .phase + 1) p ≡ false → newFor p ≡ []
+  new-none : (p : ℕ) → 1 ≤ s .phase → mayKeep (s .n) (s .me) (s .phase + 1) p ≡ false → newFor s inbox p ≡ []
   new-none p l h =
-      no-members (newFor p) (λ v i. let t = new-for-other p v i in clash (may-keep (s .n) (s .me) (s .phase) p l (t .0) (t .1)) h)
-
-  -- what is kept stays at most two different batches
-  kept-keepable : (p : ℕ) → Keepable (keptFor s p) → Keepable (keptBy s inbox p)
-  kept-keepable p k = record {
-    few = after-few (s .phase) p (keptFor s p) (takenBy s inbox) (k .few);
-    each = λ b i. ⊎-elim (k .each b) (by-vote b) (in-either b (keptFor s p) (batches (newFor p)) i);
-  }
-    where
-      by-vote : (b : List ℕ) → In b (batches (newFor p)) → isBatch b ≡ true
-      by-vote b m =
-          let t = map-in (λ (v : Vote). v .batch) b (newFor p) m in
-          ap isBatch (t .2) ∙ sayable-batch (s .n) (t .0) (taken-sayable s inbox (t .0) (new-read p (t .0) (t .1)))
+      no-members (newFor s inbox p) (λ v i. let t = new-for-other p v i in clash (may-keep (s .n) (s .me) (s .phase) p l (t .0) (t .1)) h)
 
   -- ---- the state afterwards
 
@@ -103,7 +68,7 @@ module _ (s : Node) (inbox : List ℕ) where
           own-batch = t .own-batch;
           own-empty = λ z. absurd (omega arith);
           keeps = record {
-            keepable = λ p b. kept-keepable p (t .keeps .keepable p b);
+            keepable = λ p b. kept-keepable s inbox p (t .keeps .keepable p b);
             nothing = λ p b m.
                 let old = t .keeps .nothing p b (not-before (s .n) (s .me) (s .phase) p l m) in
                 ap₂ (λ (x : List (List ℕ)) (y : List Vote). x ++ batches y) old (new-none p l m);

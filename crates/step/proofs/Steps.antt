@@ -1,58 +1,69 @@
 -- The step: each refusal is one test, in the order of the rows; what has passed them finds the votes taken up, so what is kept, passed on and written is
 -- what they say.
 use Prim.Native.Nat.{ℕ, zero, suc, _+_, _≤_, _<_}
-use mathlib.Core.Path.{_≡_, refl, sym, ap, subst, _∙_}
+use mathlib.Core.Path.{_≡_, refl, sym, ap, ap₂, subst, _∙_}
 use mathlib.Core.Logic.{_≢_}
-use mathlib.Core.Bool.{Bool, true, false, and-false}
-use mathlib.Core.List.{List, [], _∷_, _++_, map-append}
+use mathlib.Core.Bool.{Bool, true, false, cond, and-false}
+use mathlib.Core.List.{List, [], _∷_, _++_, map, map-append}
 use native.Mathlib.Numerals.{add-one}
 use native.Mathlib.Omega.{arith}
 use borrow.Author.Tests.{lt-leb, le-leb, leb-true, lt-ltb, eq-eqb, ne-eqb}
-use lib.Dec.{leb}
+use lib.Dec.{leb, eqb}
 use lib.ListN.{length, getD, take, set}
 use lib.Seq.{take-suc, take-suc-set, take-all}
-use Rattle.laws.specs.Members.{In}
 use Rattle.laws.specs.Parts.{onto}
 use Rattle.laws.proofs.Lent.{onto-length}
 use Rattle.laws.proofs.Tests.{both}
 use Rattle.rules.specs.Sizes.{nodesMost}
 use Rattle.rules.specs.Refusals.{refuse_unless_then_, done, ifDone}
 use Rattle.rules.specs.Step.{gather, keptMost, newly, passesOn}
+use Rattle.rules.specs.Vote.{Batch, Vote, passedOn}
+use Rattle.rules.proofs.Newly.{newly-few}
+use Rattle.rules.proofs.Inbox.{gather-same}
+use Rattle.rules.proofs.Gathered.{each-at}
 use Rattle.rules.proofs.Refusals.{row-passed}
 use Rattle.rules.proofs.Sizes.{Sized, sizes-told}
 use Rattle.wire.specs.Message.{messageBytes}
 use Rattle.wire.specs.Inbox.{wellCut, unreadableSenders, inboxNumber, ReadInbox}
 use Rattle.wire.specs.declared.Heard.{Heard}
 use Rattle.node.specs.Batches.{keptAs}
-use Rattle.node.specs.State.{keptFor, soundNode}
+use Rattle.node.specs.State.{keptAt, keptFor, soundNode}
 use Rattle.node.specs.declared.Kept.{Kept}
 use Rattle.node.specs.declared.Node.{Node}
-use Rattle.node.proofs.Sound.{sound-told, sound-is-of}
+use Rattle.node.proofs.Sound.{sound-told, sound-right, sound-is-of}
 use Rattle.round.specs.Found.{foundFor, foundBy, Begin, TakeInbox}
 use Rattle.round.specs.declared.Found.{Found}
-use Rattle.step.specs.Passing.{passedMost, said, AllCount, AllShort, AllSayable, Collect, PassOn, keptIn}
+use Rattle.step.specs.Passing.{AllHeld, EachHeld, foundAt, keptIn, passedFor, passedBelow, primariesIn, AllSayable}
 use Rattle.step.specs.Step.{takenBy, passedBy, steppedNode, inRounds, stepNumber, refusedStep, Step}
-use Rattle.step.specs.declared.Passing.{Passing}
 use Rattle.step.specs.declared.Stepped.{Stepped}
-use Rattle.step.proofs.PassedVotes.{kept-few, all-short, passed-by-sayable}
+use Rattle.step.proofs.PassedVotes.{kept-few, passed-by-sayable, newFor, new-of, kept-keepable}
+use Rattle.step.proofs.Outboxes.{new-passed, found-held}
 
--- ---- what is passed on in a round
+-- ---- the primaries of whom something is passed on
 
-module _ (n f me r : ℕ) (before : List Kept) (found : List Found) (o : Passing) where
-  pub last-round : r ≡ f + 1 → o .count ≡ 0 → said o ≡ [] → length (o .votes) ≡ passedMost → PassOn n f me r before found o
-  unfolding passesOn
-  last-round e z s l = record {
-    placed = record { places = l; few = omega arith };
-    says = λ kept votes b g within.
-        (s ∙ simp (eq-eqb r (f + 1) e), λ v i. absurd (subst (λ (k : ℕ). In v (take k (o .votes))) z i));
-  }
+module _ (n f r : ℕ) where
+  pub last-round : r ≡ f + 1 → 0 ≡ primariesIn n f r
+  last-round e = simp (eq-eqb r (f + 1) e)
 
-  pub earlier-round : r ≢ f + 1 → n ≤ nodesMost → Collect n me before found o → PassOn n f me r before found o
-  unfolding passesOn
-  earlier-round e l c = record {
-    placed = record { places = c .places; few = omega (arith, c .few) };
-    says = λ kept votes b g within. let t = c .says r kept votes b g within in (t .0 ∙ simp (ne-eqb r (f + 1) e), t .1);
-  }
+  pub earlier-round : r ≢ f + 1 → n ≡ primariesIn n f r
+  earlier-round e = simp (ne-eqb r (f + 1) e)
+
+  pub primaries-most : primariesIn n f r ≤ n
+  primaries-most = go (eqb r (f + 1))
+    where
+      go : (b : Bool) → cond b 0 n ≤ n
+      go true = omega arith
+      go false = omega arith
+
+  passes-gathered : (me : ℕ) (kept : ℕ → List Batch) (votes : List Vote)
+      → gather (λ (p : ℕ). map (passedOn me) (newly keptMost r p (kept p) votes)) (primariesIn n f r) ≡ passesOn n f me r kept votes
+  unfolding passesOn gather
+  passes-gathered me kept votes = go (eqb r (f + 1))
+    where
+      go : (b : Bool) → gather (λ (p : ℕ). map (passedOn me) (newly keptMost r p (kept p) votes)) (cond b 0 n)
+          ≡ cond b [] (gather (λ (p : ℕ). map (passedOn me) (newly keptMost r p (kept p) votes)) n)
+      go true = refl
+      go false = refl
 
 -- ---- what is kept of what was found, place by place
 
@@ -145,12 +156,13 @@ module _ (s : Node) (inbox out : List ℕ) where
 
 -- ---- what a sound node finds
 
--- what is passed on, collected
-pub record Passes (s : Node) (inbox : List ℕ) (o : Passing) : Type 0 where
-  pub says : said o ≡ passedBy s inbox
-  pub counts : AllCount o
-  pub sayable : AllSayable (s .n) (said o)
-  pub short : AllShort (said o)
+-- what is passed on of what was found, for the primaries below m, is what the step passes on
+pub record Passes (s : Node) (inbox : List ℕ) (found : List Found) (m : ℕ) : Type 0 where
+  pub most : m ≤ nodesMost
+  pub held : EachHeld found
+  pub says : passedBelow (s .me) (s .kept) found m ≡ passedBy s inbox
+  pub size : length (messageBytes (passedBelow (s .me) (s .kept) found m)) ≡ length (messageBytes (passedBy s inbox))
+  pub sayable : AllSayable (s .n) (passedBelow (s .me) (s .kept) found m)
 
 module _ (s : Node) (inbox : List ℕ) (h : soundNode s ≡ true) where
   pub numbers : Sized (s .n) (s .f) (s .me)
@@ -184,11 +196,39 @@ module _ (s : Node) (inbox : List ℕ) (h : soundNode s ≡ true) where
     pub found-is : found ≡ foundBy (s .phase) (keptFor s) (takenBy s inbox)
     found-is = t .cut (numbers .nodes) w e .takes (keptFor s) [] (b .begins (s .phase) (keptFor s) kept-is)
 
-    pub passes : (o : Passing) → PassOn (s .n) (s .f) (s .me) (s .phase) (s .kept) found o → Passes s inbox o
-    passes o p =
-        let q = p .says (keptFor s) (takenBy s inbox) kept-is found-is (kept-few s) in
-        let say : AllSayable (s .n) (said o) = subst (AllSayable (s .n)) (sym (q .0)) (passed-by-sayable s inbox (numbers .node)) in
-        record { says = q .0; counts = q .1; sayable = say; short = all-short (s .n) (said o) say }
+    found-at : (p : ℕ) → p < nodesMost → foundAt found p ≡ foundFor (keptFor s p) (newFor s inbox p)
+    found-at p l = ap (λ (x : List Found). foundAt x p) found-is ∙ each-at (λ (q : ℕ). foundFor (keptFor s q) (newFor s inbox q)) _ nodesMost p l
+
+    each-held : EachHeld found
+    each-held p l =
+        subst AllHeld (sym (found-at p l))
+        (found-held (keptFor s p) (newFor s inbox p) (newly-few keptMost (s .phase) p (keptFor s p) (takenBy s inbox) (kept-few s p))
+        (kept-keepable s inbox p (sound-right s h .keeps .keepable p l) .each))
+
+    old-count : (p : ℕ) → p < nodesMost → keptAt (s .kept) p .count ≡ length (keptFor s p)
+    old-count p l =
+        ap (λ (x : List Kept). keptAt x p .count) kept-is ∙ ap (λ (x : Kept). x .count) (each-at (λ (q : ℕ). keptAs (keptFor s q)) _ nodesMost p l)
+
+    passed-at : (p : ℕ) → p < nodesMost → passedFor (s .me) p (keptAt (s .kept) p .count) (foundAt found p) ≡ map (passedOn (s .me)) (newFor s inbox p)
+    passed-at p l =
+        ap₂ (passedFor (s .me) p) (old-count p l) (found-at p l)
+        ∙ new-passed (s .me) p (keptFor s p) (newFor s inbox p) (newly-few keptMost (s .phase) p (keptFor s p) (takenBy s inbox) (kept-few s p)) (new-of s inbox p)
+
+    pub passes : (m : ℕ) → m ≡ primariesIn (s .n) (s .f) (s .phase) → Passes s inbox found m
+    passes m e =
+        let most : m ≤ nodesMost = omega (arith, primaries-most (s .n) (s .f) (s .phase), numbers .most) in
+        let says : passedBelow (s .me) (s .kept) found m ≡ passedBy s inbox =
+        gather-same (λ (p : ℕ). passedFor (s .me) p (keptAt (s .kept) p .count) (foundAt found p)) (λ (p : ℕ). map (passedOn (s .me)) (newFor s inbox p)) m
+        (λ p l. passed-at p (omega arith))
+        ∙ ap (gather (λ (p : ℕ). map (passedOn (s .me)) (newFor s inbox p))) e
+        ∙ passes-gathered (s .n) (s .f) (s .phase) (s .me) (keptFor s) (takenBy s inbox) in
+        record {
+          most = most;
+          held = each-held;
+          says = says;
+          size = ap (λ (vs : List Vote). length (messageBytes vs)) says;
+          sayable = subst (AllSayable (s .n)) (sym says) (passed-by-sayable s inbox (numbers .node));
+        }
 
     pub next-node : (kept : List Kept) → kept ≡ keptIn found
         → record { n = s .n; f = s .f; me = s .me; phase = s .phase + 1; own = s .own; kept = kept } ≡ steppedNode s inbox

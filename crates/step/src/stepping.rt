@@ -1,17 +1,14 @@
 // The round step.
 ghost use mathlib.Core.Path.{_≡_};
 ghost use mathlib.Core.Bool.{true};
-ghost use Prim.Native.Nat.{_≤_, _<_, _+_};
+ghost use Prim.Native.Nat.{_<_};
 ghost use Rattle.rules.specs.Sizes.{nodesMost};
 ghost use Rattle.wire.specs.Inbox.{wellCut, unreadableSenders};
 ghost use Rattle.node.specs.State.{soundNode};
-ghost use Rattle.step.specs.Passing.{PassOn, keptIn};
+ghost use Rattle.step.specs.Passing.{keptIn, primariesIn};
 ghost use Rattle.step.specs.Step.{inRounds, refusedStep, Step};
-use crate::Passing;
 use crate::Stepped;
-use crate::outbox::collect;
-use crate::outbox::nothing;
-use crate::outbox::size_of;
+use crate::outbox::size_all;
 use crate::outbox::write_all;
 use node::Kept;
 use node::Node;
@@ -28,22 +25,15 @@ fn refused(number: u8, node: Node) -> Stepped
     }
 }
 
-// What is newly kept, and nothing in round f + 1.
-fn passed_on(
-    n: usize,
-    f: usize,
-    me: usize,
-    phase: usize,
-    before: [Kept; rules::NODES_MOST],
-    found: [Found; rules::NODES_MOST],
-) -> Passing
-    requires { ⌜ (n ≤ nodesMost) × (f < nodesMost) × (me < nodesMost) ⌝ }
-    ensures { λ r. ⌜ PassOn n f me phase before found r ⌝ }
+// The number below which are the primaries whose batches are passed on: in round f + 1 there are none.
+fn primaries_in(n: usize, f: usize, phase: usize) -> usize
+    requires { ⌜ f < nodesMost ⌝ }
+    ensures { λ r. ⌜ r ≡ primariesIn n f phase ⌝ }
 {
     if phase == f + 1 {
-        return nothing();
+        return 0;
     }
-    collect(n, me, before, found)
+    n
 }
 
 // The batches kept, of what was found.
@@ -76,11 +66,11 @@ fn take(node: Node, inbox: &[u8], unreadable: u16, outbox: &mut [u8]) -> Stepped
     let before = node.kept;
     let begun = round::begin(before);
     let found = round::take_inbox(n, me, phase, begun, inbox, unreadable);
-    let passing = passed_on(n, f, me, phase, before, found);
-    if outbox.len() < size_of(passing) {
+    let primaries = primaries_in(n, f, phase);
+    if outbox.len() < size_all(primaries, before, found) {
         return refused(9, node);
     }
-    let length = write_all(n, passing, outbox);
+    let length = write_all(n, me, primaries, before, found, outbox);
     let kept = kept_in(found);
     let after = Node {
         n: n,
