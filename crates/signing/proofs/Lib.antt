@@ -1,3 +1,4 @@
+pub mod Marks
 pub mod Slots
 pub mod Answers
 pub mod Determined

@@ -1,20 +1,22 @@
--- Whether the whole marks are equal is whether their rests are, as long as all passed is equal.
+-- Whether the whole marks are equal is whether all passed is equal and the rests are.
 use Prim.Native.Nat.{_-_, _≤_}
 use mathlib.Core.Path.{_≡_, refl, sym, _∙_}
+use mathlib.Core.Bool.{_&&_}
 use native.Mathlib.Omega.{arith}
 use denote.Ref.{now}
 use lib.ListN.{length, drop}
 use Rattle.laws.specs.Members.{same}
-use Rattle.laws.proofs.Equal.{unlike-long, both-passed, here-unlike, here-alike}
+use Rattle.laws.proofs.Equal.{unlike-long}
+use Rattle.signing.proofs.Marks.{one-joins, all-joined}
 use borrow.Author.Needs.{needs}
 use Rattle.signing.proofs.slot.is_same.Statement.{statement}
 use Rattle.signing.proofs.slot.is_same.Tie as tie
 
 abbrev Inv-loop : tie.InvT-loop
-Inv-loop mark other i₀ i = (i ≤ length mark) × (same mark other ≡ same (drop i mark) (drop i other))
+Inv-loop mark other alike₀ i₀ alike i = (i ≤ length mark) × (same mark other ≡ (alike && same (drop i mark) (drop i other)))
 
 abbrev μ-loop : tie.MeasureT-loop
-μ-loop mark other i₀ i = length mark - i
+μ-loop mark other alike₀ i₀ alike i = length mark - i
 
 returns : tie.Need-returns Inv-loop μ-loop
 returns c = let a = c .before .args in sym (unlike-long (now (a .mark)) (now (a .other)) (c .if1 .taken))
@@ -22,17 +24,11 @@ returns c = let a = c .before .args in sym (unlike-long (now (a .mark)) (now (a 
 loop-holds : tie.Need-loop-holds Inv-loop μ-loop
 loop-holds c = (omega arith, refl)
 
-shared-slice-read-if2 : tie.Need-shared-slice-read-if2 Inv-loop μ-loop
-shared-slice-read-if2 c = search needs
+shared-slice-read-alike : tie.Need-shared-slice-read-alike Inv-loop μ-loop
+shared-slice-read-alike c = search needs
 
-shared-slice-read-if2-2 : tie.Need-shared-slice-read-if2-2 Inv-loop μ-loop
-shared-slice-read-if2-2 c = search needs
-
-returns-2 : tie.Need-returns-2 Inv-loop μ-loop
-returns-2 c =
-    let a = c .before .before .before .before .before .before .args in
-    let l = c .before .before .before .before .loop in
-    sym (l .inv .1 ∙ here-unlike (now (a .mark)) (now (a .other)) (l .i) (omega arith) (omega arith) (λ e. omega arith))
+shared-slice-read-alike-2 : tie.Need-shared-slice-read-alike-2 Inv-loop μ-loop
+shared-slice-read-alike-2 c = search needs
 
 add-i : tie.Need-add-i Inv-loop μ-loop
 add-i c = search needs
@@ -42,15 +38,15 @@ loop-less c = search needs
 
 loop-again : tie.Need-loop-again Inv-loop μ-loop
 loop-again c =
-    let a = c .before .before .before .before .before .before .args in
-    let l = c .before .before .before .before .loop in
-    (omega arith, l .inv .1 ∙ here-alike (now (a .mark)) (now (a .other)) (l .i) (omega arith) (omega arith) (omega arith))
+    let a = c .before .before .before .before .before .args in
+    let l = c .before .before .before .loop in
+    (omega arith, l .inv .1 ∙ one-joins (now (a .mark)) (now (a .other)) (l .i) (l .alike) (omega arith) (omega arith))
 
-returns-3 : tie.Need-returns-3 Inv-loop μ-loop
-returns-3 c =
+returns-2 : tie.Need-returns-2 Inv-loop μ-loop
+returns-2 c =
     let a = c .before .before .before .args in
     let l = c .before .loop in
-    sym (l .inv .1 ∙ both-passed (now (a .mark)) (now (a .other)) (l .i) (omega arith) (omega arith))
+    sym (l .inv .1 ∙ all-joined (now (a .mark)) (now (a .other)) (l .i) (l .alike) (omega arith) (omega arith))
 
 pub is-same-spec : {M : Type 1} → statement M
 is-same-spec =
@@ -60,10 +56,9 @@ is-same-spec =
     μ-loop
     returns
     loop-holds
-    shared-slice-read-if2
-    shared-slice-read-if2-2
-    returns-2
+    shared-slice-read-alike
+    shared-slice-read-alike-2
     add-i
     loop-less
     loop-again
-    returns-3)
+    returns-2)
