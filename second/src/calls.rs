@@ -96,7 +96,12 @@ pub enum RecordReading {
     Refused(u64),
     Unreadable,
     /// The next place counts from the start of the part that was handed in.
-    Vote { primary: u64, mask: u16, count: u64, next: u64 },
+    Vote {
+        primary: u64,
+        mask: u16,
+        count: u64,
+        next: u64,
+    },
 }
 
 pub fn read_record(n: u64, part: &[u8]) -> RecordReading {

@@ -119,9 +119,6 @@ fn send(sizes: Sizes, faulty: &[usize], line: usize, value: &[u8]) -> Option<Sen
     let from = node(sizes, from)?;
     let to = node(sizes, to)?;
     let message = hex(message)?;
-    let good = round >= 1
-        && faulty.contains(&from)
-        && !faulty.contains(&to)
-        && (1..=MOST_IN_MESSAGE).contains(&message.len());
+    let good = round >= 1 && faulty.contains(&from) && !faulty.contains(&to) && (1..=MOST_IN_MESSAGE).contains(&message.len());
     good.then_some(Send { line, round, from, to, message })
 }
