@@ -338,15 +338,3 @@ fn records_read_and_fail_to_read() {
     assert_eq!(calls::read_message(3, &vote[..12].repeat(3)), MessageReading::Votes(3));
     assert_eq!(calls::read_message(3, &vote), MessageReading::Unreadable);
 }
-
-#[test]
-fn a_step_takes_the_mask_of_the_first_accepted_vote() {
-    let mut given = node(2);
-    let late = [0u8, 0, 1, 0].as_slice();
-    let first = [0u8, 0, 0b10001, 0].as_slice();
-    let second = [0u8, 0, 0b11101, 0].as_slice();
-    let inbox = second::inbox::pack([late, first, &[], &[first, second].concat(), second]);
-    let mut outbox = [0; 8];
-    assert_eq!(calls::step(&mut given, &inbox, &mut outbox), StepAnswer { number: 0, length: 4, unreadable: 0 });
-    assert_eq!(outbox, [0, 0, 0b10011, 0, 0, 0, 0, 0]);
-}

@@ -9,7 +9,7 @@ impl Random {
         Random { state: seed }
     }
 
-    pub fn next(&mut self) -> u64 {
+    pub fn any(&mut self) -> u64 {
         self.state = self.state.wrapping_add(0x9e37_79b9_7f4a_7c15);
         let mixed = (self.state ^ self.state >> 30).wrapping_mul(0xbf58_476d_1ce4_e5b9);
         let mixed = (mixed ^ mixed >> 27).wrapping_mul(0x94d0_49bb_1331_11eb);
@@ -18,7 +18,7 @@ impl Random {
 
     /// 0 to `limit` − 1.
     pub fn below(&mut self, limit: usize) -> usize {
-        (self.next() % limit as u64) as usize
+        (self.any() % limit as u64) as usize
     }
 
     /// `low` to `high`, both included.
@@ -43,6 +43,6 @@ impl Random {
 
     /// Some bits of a mask.
     pub fn some_of(&mut self, mask: u16) -> u16 {
-        mask & self.next() as u16
+        mask & self.any() as u16
     }
 }

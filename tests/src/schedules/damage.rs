@@ -157,7 +157,7 @@ fn any_number(random: &mut Random, draft: &Draft) -> Option<Number> {
     let mut start = key.len() + 1;
     for (place, piece) in value.split([',', '.']).enumerate() {
         let end = start + piece.len();
-        if !piece.is_empty() && !(key == "send" && place > 2) {
+        if !(piece.is_empty() || key == "send" && place > 2) {
             numbers.push(Number { line, start, end, most: limits[place % limits.len()] });
         }
         start = end + 1;
@@ -450,7 +450,7 @@ fn equal_sends(random: &mut Random, mut draft: Draft) -> Option<(Vec<u8>, Expect
     let number = draft.any_send(random);
     let text = draft.text(number);
     let equal =
-        if random.chance(50) { text } else { format!("{},{}", text.rsplit_once(',')?.0, hex(&random.next().to_le_bytes())) };
+        if random.chance(50) { text } else { format!("{},{}", text.rsplit_once(',')?.0, hex(&random.any().to_le_bytes())) };
     draft.lines.insert(number, equal.into());
     Some((draft.file(), Bad(number + 1)))
 }
@@ -534,7 +534,7 @@ fn noise(random: &mut Random, _: Draft) -> Option<(Vec<u8>, Expected)> {
     let length = random.below(200);
     let letters = b"nf=0123456789,.\nsendtrayfaulty";
     let text = random.chance(50);
-    let file = (0..length).map(|_| if text { *random.pick(letters) } else { random.next() as u8 }).collect();
+    let file = (0..length).map(|_| if text { *random.pick(letters) } else { random.any() as u8 }).collect();
     Some((file, Anything))
 }
 
@@ -542,7 +542,7 @@ fn some_byte(random: &mut Random) -> u8 {
     if random.chance(70) {
         *random.pick(b"0123456789abcdef,.=\n")
     } else {
-        random.next() as u8
+        random.any() as u8
     }
 }
 

@@ -28,7 +28,7 @@ enum Form {
     /// In a message that is unreadable: it shows nothing.
     InUnreadable,
     /// Before a line of bad form, which is the one that counts.
-    BeforeBadForm,
+    BeforeBadLine,
     /// Twice: the first counts.
     Twice,
 }
@@ -54,7 +54,7 @@ const KINDS: &[Kind] = &[
     Kind { kind: "forged: in a record that the receiver passes over", tricks: EVERYTHING, forgery: about_receiver, form: Plain },
     Kind { kind: "forged: what was accepted by nobody", tricks: &[TooFew, NoPrimary], forgery: not_accepted, form: Plain },
     Kind { kind: "forged: the last record of many", tricks: EVERYTHING, forgery: another_nodes, form: LastOfMany },
-    Kind { kind: "forged: before a line of bad form", tricks: EVERYTHING, forgery: unheard_of, form: BeforeBadForm },
+    Kind { kind: "forged: before a line of bad form", tricks: EVERYTHING, forgery: unheard_of, form: BeforeBadLine },
     Kind { kind: "forged: two of them", tricks: EVERYTHING, forgery: another_nodes, form: Twice },
     Kind { kind: "lawful: forged in an unreadable message", tricks: EVERYTHING, forgery: another_nodes, form: InUnreadable },
 ];
@@ -121,7 +121,7 @@ fn finish(random: &mut Random, play: &Play, form: Form, line: usize) -> (Vec<u8>
     let mut draft = play.draft();
     match form {
         InUnreadable => (draft.file(), Expected::Good),
-        BeforeBadForm => {
+        BeforeBadLine => {
             let bad = random.between(line + 1, draft.lines.len());
             draft.lines[bad - 1].extend(b",");
             (draft.file(), Expected::Bad(bad))
@@ -153,7 +153,7 @@ impl Place<'_> {
 fn unheard_of(random: &mut Random, place: &Place) -> Option<Vote> {
     let member = place.member(random);
     let primary = *random.pick(&place.play.faulty);
-    let batch = vec![random.next() | 1 << 63];
+    let batch = vec![random.any() | 1 << 63];
     place.forging(random, member, primary, batch)
 }
 
@@ -169,7 +169,7 @@ fn too_early(random: &mut Random, place: &Place) -> Option<Vote> {
     let member = place.member(random);
     let later = next.iter().find(|later| later.number == member.number)?;
     let new = &later.voted[member.voted.len()..];
-    let (primary, batch) = random.pick(if new.is_empty() { return None } else { new }).clone();
+    let (primary, batch) = if new.is_empty() { return None } else { random.pick(new).clone() };
     place.forging(random, member, primary, batch)
 }
 
@@ -178,11 +178,15 @@ fn kept_last(random: &mut Random, place: &Place) -> Option<Vote> {
         return None;
     }
     let next = after_this_round(place);
-    let member = place.member(random);
-    let later = next.iter().find(|later| later.number == member.number)?;
-    let primary = random.below(place.play.sizes.n);
-    let new = later.node.kept(primary).get(member.node.kept(primary).len()..)?;
-    place.forging(random, member, primary, new.first()?.clone())
+    let mut new: Vec<(&Member, usize, Batch)> = Vec::new();
+    for (member, later) in place.hall.correct().iter().zip(&next) {
+        for primary in 0..place.play.sizes.n {
+            let before = member.node.kept(primary).len();
+            new.extend(later.node.kept(primary)[before..].iter().map(|batch| (member, primary, batch.clone())));
+        }
+    }
+    let (member, primary, batch) = if new.is_empty() { return None } else { random.pick(&new).clone() };
+    place.forging(random, member, primary, batch)
 }
 
 fn after_this_round(place: &Place) -> Vec<Member> {

@@ -263,17 +263,18 @@ impl Play {
             play.faulty.iter().flat_map(|&from| play.correct().into_iter().map(move |to| (from, to))).collect();
         let parity = (0..play.sizes.n).find(|&node| play.faulty.contains(&node)).unwrap();
         play.trays[parity] = vec![entry(1, 1, 1)];
+        let mut rest = length - play.draft().file().len();
+        let overhead = "send=1,0,1,\n".len();
         for round in 1..=3 {
             for &(from, to) in &places {
-                let rest = length - play.draft().file().len();
-                let overhead = "send=1,0,1,\n".len();
                 if rest <= overhead + 1 {
-                    continue;
+                    break;
                 }
                 let most = (rest - overhead) / 2;
                 // What is left after this one has to hold another whole line, or nothing.
                 let size = if most > MOST_IN_MESSAGE { MOST_IN_MESSAGE.min(most - 20) } else { most };
                 play.send(round, from, to, vec![0xff; size]);
+                rest -= overhead + 2 * size;
             }
         }
         if play.draft().file().len() < length {
@@ -319,7 +320,8 @@ impl Draft {
 }
 
 pub fn hex(bytes: &[u8]) -> String {
-    bytes.iter().map(|byte| format!("{byte:02x}")).collect()
+    let digit = |value: u8| char::from_digit(value.into(), 16).expect("half a byte");
+    bytes.iter().flat_map(|byte| [digit(byte >> 4), digit(byte & 15)]).collect()
 }
 
 /// All n from 1 to 16 and all f; small halls more often, since there more happens in fewer lines.
@@ -352,7 +354,7 @@ fn some_places(random: &mut Random, play: &Play, count: usize) -> Vec<(usize, us
 fn some_entry(random: &mut Random, span: usize) -> u64 {
     match random.below(20) {
         0 => *random.pick(&[0, u64::MAX, entry(u16::MAX, 0, 0), entry(0, u16::MAX, 0), entry(0, 0, u32::MAX)]),
-        1 => random.next(),
+        1 => random.any(),
         _ => entry(random.below(span.min(5)) as u16, random.below(span.min(9)) as u16, random.below(span) as u32),
     }
 }
