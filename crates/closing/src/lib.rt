@@ -10,6 +10,7 @@ use node::Node;
 use rules::LOG_MOST;
 
 // A refusal's number or 0, and the length of the new log.
+#[repr(C)]
 pub struct Closed {
     pub number: u8,
     pub length: usize,

@@ -23,6 +23,7 @@ pub struct Passing {
 pub const PASSED_MOST: usize = Node::KEPT_MOST * rules::NODES_MOST;
 
 // A refusal's number or 0, the length of what the outbox holds, the senders whose message was unreadable, the node afterwards.
+#[repr(C)]
 pub struct Stepped {
     pub number: u8,
     pub length: usize,

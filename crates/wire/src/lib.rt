@@ -56,6 +56,7 @@ pub enum Place {
 }
 
 // The senders of an inbox whose message is unreadable.
+#[repr(C)]
 pub struct Heard {
     pub number: u8,
     pub unreadable: u16,
