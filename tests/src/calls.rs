@@ -15,6 +15,7 @@ pub mod run;
 mod show;
 pub mod signing;
 pub mod sizes;
+mod soundness;
 pub mod states;
 pub mod steps;
 pub mod tally;
@@ -59,6 +60,7 @@ const BOUNDARIES: &[fn(&mut Run) -> Held] = &[
     records::reader_boundaries,
     records::writer_boundaries,
     inboxes::boundaries,
+    soundness::boundaries,
 ];
 
 /// What is generated in every turn.

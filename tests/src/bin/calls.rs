@@ -2,10 +2,9 @@
 //! boundaries and on TURNS turns of generated inputs. Ends with 1 where outcomes differ, and where some refusal of some call
 //! was never reached. With --kinds it also counts the kinds of inputs.
 
-use comparisons::calls::run::Run;
+use comparisons::calls::run::{quiet_second_program, Run};
 use comparisons::calls::{compare, examples, CALLS};
 use std::env;
-use std::panic;
 use std::process::ExitCode;
 
 const SEED: u64 = 1;
@@ -27,8 +26,7 @@ fn main() -> ExitCode {
 }
 
 fn calls(turns: usize, seed: u64, with_kinds: bool) -> ExitCode {
-    // A panic of the second program is a difference like any other and told as one.
-    panic::set_hook(Box::new(|_| {}));
+    quiet_second_program();
     let mut run = Run::default();
     if let Err(difference) = compare(&mut run, seed, turns) {
         println!("DIFFERENT in {difference}");

@@ -7,7 +7,7 @@ use super::messages::{bytes, records, some_message, some_votes, DAMAGES, MOST_IN
 use super::opening::{New, Open};
 use super::run::{Held, Run};
 use super::signing::Signers;
-use super::sizes::Sizes;
+use super::sizes::{all_bits, Sizes};
 use super::states::Scene;
 use super::steps::Step;
 use super::trays::Put;
@@ -138,7 +138,7 @@ fn lie(random: &mut Random, hall: &Hall) -> Vec<u8> {
 /// A message that a correct node sent, as it was or with more witnesses.
 fn replay(random: &mut Random, hall: &Hall) -> Vec<u8> {
     let mut message = random.pick(&hall.sent).clone();
-    let more = random.some_of(super::sizes::all_bits(hall.n)).to_le_bytes();
+    let more = random.some_of(all_bits(hall.n)).to_le_bytes();
     let starts: Vec<usize> = records(&message).collect();
     for start in starts {
         if random.chance(60) {

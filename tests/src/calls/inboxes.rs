@@ -1,10 +1,10 @@
 //! Inboxes, cut well and ill, and the call that reads one.
 
 use super::call::{Answer, Call, Lent};
-use super::messages::{bytes, filled, records, some_message, Vote, DAMAGES, MOST_IN_MESSAGE};
+use super::messages::{bytes, filled, records, some_message, some_votes, Vote, DAMAGES, MOST_IN_MESSAGE};
 use super::run::{Held, Run};
 use super::show;
-use super::sizes::{all_bits, broken_sizes, every_hall, every_n, Sizes, HUGE};
+use super::sizes::{broken_sizes, every_hall, every_n, Sizes, HUGE};
 use super::states::Scene;
 use crate::random::Random;
 use second::calls;
@@ -77,8 +77,10 @@ pub const ILL_CUTS: &[IllCut] = &[
         packed(&messages)
     }),
     ("nothing at all", |_, _, _| Vec::new()),
-    ("the last length one too large", |_, scene, messages| {
-        with_length(messages, scene.sizes.n as usize - 1, |length| length + 1)
+    ("the last length one too large", |_, scene, mut messages| {
+        let last = scene.sizes.n as usize - 1;
+        messages[last].truncate(MOST_IN_MESSAGE);
+        with_length(messages, last, |length| length + 1)
     }),
     ("the last length one too small", |_, scene, mut messages| {
         let last = scene.sizes.n as usize - 1;
@@ -230,15 +232,13 @@ pub fn compare(run: &mut Run, random: &mut Random, turn: usize) -> Held {
         inbox[place] ^= 1 << random.below(8);
     }
     run.hold("an inbox with a bit flipped", &ReadInbox { n, me, inbox })?;
-    let broken = broken_sizes(random);
-    let ReadInbox { inbox, .. } = one_damaged(random, &scene, turn);
-    if broken.n != 0 && broken.n <= 16 && broken.me < broken.n {
-        return Ok(());
-    }
-    run.expect("row 1 before row 4", 1, &ReadInbox { n: broken.n, me: broken.me, inbox: inbox[1..].to_vec() })?;
     let damaged = one_damaged(random, &scene, turn);
-    let outcome = run.expect(DAMAGES[turn % DAMAGES.len()].name, 0, &damaged)?;
-    debug_assert!(outcome.answer.values[0] <= all_bits(n).into());
+    run.expect(DAMAGES[turn % DAMAGES.len()].name, 0, &damaged)?;
+    let broken = broken_sizes(random);
+    if !(1..=16).contains(&broken.n) || broken.me >= broken.n {
+        let inbox = damaged.inbox[1..].to_vec();
+        run.expect("row 1 before row 4", 1, &ReadInbox { n: broken.n, me: broken.me, inbox })?;
+    }
     Ok(())
 }
 
@@ -246,7 +246,7 @@ pub fn compare(run: &mut Run, random: &mut Random, turn: usize) -> Held {
 fn one_damaged(random: &mut Random, scene: &Scene, turn: usize) -> ReadInbox {
     let Sizes { n, me, .. } = scene.sizes;
     let sender = random.below(n as usize);
-    let message = bytes(&super::messages::some_votes(random, scene));
+    let message = bytes(&some_votes(random, scene));
     let damaged = (DAMAGES[turn % DAMAGES.len()].make)(random, scene, message);
     let full = filled(random, scene, MOST_IN_MESSAGE);
     let others: &[u8] = if random.chance(10) { &full } else { &[] };

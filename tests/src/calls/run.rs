@@ -4,8 +4,9 @@
 use super::call::{Answer, Call, Lent};
 use super::show;
 use super::tally::Tally;
+use std::cell::Cell;
 use std::fmt;
-use std::panic::{catch_unwind, AssertUnwindSafe};
+use std::panic::{self, catch_unwind, AssertUnwindSafe};
 
 /// What a call answered, and all that it may have changed.
 #[derive(Clone, PartialEq, Eq)]
@@ -54,6 +55,28 @@ impl Run {
     }
 }
 
+thread_local! {
+    static ASKED: Cell<bool> = const { Cell::new(false) };
+}
+
+/// Asks the second program. A panic of it is a difference like any other and is told as one, not by the panic's own words.
+fn unless_it_panics(ask: impl FnOnce() -> Answer) -> Option<Answer> {
+    ASKED.set(true);
+    let answer = catch_unwind(AssertUnwindSafe(ask)).ok();
+    ASKED.set(false);
+    answer
+}
+
+/// Leaves the words of all other panics as they are.
+pub fn quiet_second_program() {
+    let words = panic::take_hook();
+    panic::set_hook(Box::new(move |panic| {
+        if !ASKED.get() {
+            words(panic);
+        }
+    }));
+}
+
 /// Both outcomes of one input; the second program has none where it panics.
 struct Asked {
     before: Lent,
@@ -67,7 +90,7 @@ impl Asked {
         let mut lent = before.clone();
         let proved = Outcome { answer: input.proved(&mut lent), lent };
         let mut lent = before.clone();
-        let answer = catch_unwind(AssertUnwindSafe(|| input.second(&mut lent))).ok();
+        let answer = unless_it_panics(|| input.second(&mut lent));
         Asked { before, proved, second: answer.map(|answer| Outcome { answer, lent }) }
     }
 

@@ -1,7 +1,7 @@
 //! The round step.
 
 use super::call::{Answer, Call, Lent};
-use super::inboxes::{pack, smaller_inboxes, some_messages, well_cut, ILL_CUTS};
+use super::inboxes::{pack, smaller_inboxes, some_messages, well_cut, ReadInbox, ILL_CUTS};
 use super::library;
 use super::messages::{bytes, some_votes, Vote, DAMAGES, MOST_IN_MESSAGE};
 use super::run::{Held, Run};
@@ -69,8 +69,25 @@ pub fn boundaries(run: &mut Run) -> Held {
             run.expect("every phase", number, &step)?;
         }
     }
+    every_ill_cut(run)?;
     outbox_lengths(run)?;
     largest_outboxes(run)
+}
+
+/// Every way to cut an inbox ill, in every hall.
+fn every_ill_cut(run: &mut Run) -> Held {
+    let mut random = Random::new(0);
+    for sizes in every_hall() {
+        for &(name, cut_ill) in ILL_CUTS {
+            let scene = Scene::new(&mut random, sizes, 1);
+            let messages = some_messages(&mut random, &scene);
+            let step =
+                Step { node: scene.state(&mut random), inbox: cut_ill(&mut random, &scene, messages), room: MOST_IN_MESSAGE };
+            run.expect(name, 4, &step)?;
+            run.expect(name, 4, &ReadInbox { n: sizes.n, me: sizes.me, inbox: step.inbox })?;
+        }
+    }
+    Ok(())
 }
 
 /// Two batches of one primary and one of another in a hall of three, f + 1 = 2: every length of the outbox in both rounds.
