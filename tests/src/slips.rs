@@ -6,7 +6,7 @@
 
 use std::fs;
 use std::io;
-use std::path::Path;
+use std::path::{Path, PathBuf};
 use std::process::{Command, Stdio};
 
 pub struct Slip {
@@ -30,7 +30,7 @@ struct Edit {
 }
 
 /// All slips of a folder, by name.
-pub fn read_all(folder: &Path) -> io::Result<Vec<Slip>> {
+fn read_all(folder: &Path) -> io::Result<Vec<Slip>> {
     let mut slips = Vec::new();
     for found in fs::read_dir(folder)? {
         let path = found?.path();
@@ -76,8 +76,13 @@ fn read(name: &str, text: &str) -> Option<Slip> {
 }
 
 impl Slip {
+    /// Whether a call can show it: something other than the rehearsal is edited.
+    pub fn concerns_calls(&self) -> bool {
+        self.edits.iter().any(|edit| !edit.file.starts_with("src/rehearsal/"))
+    }
+
     /// Puts the edits into a copy of second/.
-    pub fn plant(&self, copy: &Path) -> io::Result<()> {
+    fn plant(&self, copy: &Path) -> io::Result<()> {
         for edit in &self.edits {
             let path = copy.join(&edit.file);
             let text = fs::read_to_string(&path)?;
@@ -91,27 +96,70 @@ impl Slip {
     }
 }
 
-/// Copies second/ without what was built or planted.
-pub fn copy(from: &Path, to: &Path) -> io::Result<()> {
+/// Copies a folder without what was built or is to be planted. A file that is the same already stays as it is, so that
+/// cargo builds only what has changed.
+fn copy(from: &Path, to: &Path) -> io::Result<()> {
     fs::create_dir_all(to)?;
     for found in fs::read_dir(from)? {
         let found = found?;
         let name = found.file_name();
+        let (from, to) = (found.path(), to.join(&name));
         if found.file_type()?.is_dir() {
             if name != "target" && name != "slips" {
-                copy(&found.path(), &to.join(name))?;
+                copy(&from, &to)?;
             }
         } else {
-            fs::write(to.join(name), fs::read(found.path())?)?;
+            let contents = fs::read(from)?;
+            if fs::read(&to).ok().as_ref() != Some(&contents) {
+                fs::write(to, contents)?;
+            }
         }
     }
     Ok(())
 }
 
-/// Runs cargo on a copy, silently; whether it ended well.
-pub fn cargo(copy: &Path, target: &Path, words: &[&str]) -> io::Result<bool> {
-    let mut cargo = Command::new("cargo");
-    cargo.args(words).args(["-j1", "--quiet", "--offline", "--manifest-path"]).arg(copy.join("Cargo.toml"));
-    cargo.arg("--target-dir").arg(target);
-    Ok(cargo.stdout(Stdio::null()).stderr(Stdio::null()).status()?.success())
+/// A copy of the folders that the comparisons are built from, to be slipped.
+pub struct Copies {
+    root: PathBuf,
+    copy: PathBuf,
+}
+
+const FOLDERS: [&str; 3] = ["second", "tests", "bindings/rust"];
+
+impl Copies {
+    pub fn of(root: &Path) -> Copies {
+        Copies { root: root.into(), copy: root.join("target/slips") }
+    }
+
+    pub fn slips(&self) -> io::Result<Vec<Slip>> {
+        read_all(&self.root.join("second/slips"))
+    }
+
+    /// Copies anew, plants the slip, and builds the slipped program and its call comparisons.
+    pub fn build(&self, slip: &Slip) -> io::Result<()> {
+        for folder in FOLDERS {
+            copy(&self.root.join(folder), &self.copy.join(folder))?;
+        }
+        slip.plant(&self.copy.join("second"))?;
+        let built = self.cargo("second", "second")? && (!slip.concerns_calls() || self.cargo("tests", "calls")?);
+        built.then_some(()).ok_or_else(|| wrong(&slip.name, "the slipped program does not build"))
+    }
+
+    /// Builds a program of a copied folder, quickly rather than for speed; whether it could be built.
+    fn cargo(&self, folder: &str, program: &str) -> io::Result<bool> {
+        let mut cargo = Command::new("cargo");
+        cargo.args(["build", "-j1", "--quiet", "--offline", "--bin", program]);
+        cargo
+            .arg("--manifest-path")
+            .arg(self.copy.join(folder).join("Cargo.toml"))
+            .arg("--target-dir")
+            .arg(self.copy.join("built"));
+        cargo.env("RAUDOKIIN_LIB", self.root.join("target/staticlib"));
+        cargo.env("CARGO_PROFILE_DEV_OPT_LEVEL", "0").env("CARGO_PROFILE_DEV_DEBUG", "0");
+        Ok(cargo.stdout(Stdio::null()).stderr(Stdio::null()).status()?.success())
+    }
+
+    pub fn program(&self, name: &str) -> PathBuf {
+        self.copy.join("built/debug").join(name)
+    }
 }

@@ -8,7 +8,7 @@ use std::env;
 use std::process::ExitCode;
 
 const SEED: u64 = 1;
-const TURNS: usize = 4_000;
+const TURNS: usize = 20_000;
 
 fn main() -> ExitCode {
     let (flags, words): (Vec<String>, Vec<String>) = env::args().skip(1).partition(|word| word.starts_with("--"));

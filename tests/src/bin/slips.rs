@@ -1,34 +1,33 @@
-//! `slips [--own-tests] [COUNT] [NAME ..]`: plants each slip of second/slips in a copy of second/, builds it and
-//! rehearses it against the unslipped program on up to COUNT schedules. Ends with 1 where a slip for the rehearsals is
-//! not found. Slips for the call comparisons are only built; with --own-tests the second program's own tests have to
-//! fail on them.
+//! `slips [--table] [COUNT] [NAME ..]`: plants each slip of second/slips (or those named) in a copy of second/ and holds the
+//! slipped program against libhost.a call by call and against the unslipped program on up to COUNT schedules. Ends with 1
+//! where a slip is not found by the comparison that has to find it. With --table it prints docs/SLIPS.md.
 
 use comparisons::programs::Program;
 use comparisons::rehearsals::compare;
-use comparisons::slips::{cargo, copy, read_all, Comparison, Slip};
+use comparisons::slips::{Comparison, Copies, Slip};
 use std::env;
 use std::io;
-use std::path::{Path, PathBuf};
-use std::process::ExitCode;
+use std::path::Path;
+use std::process::{Command, ExitCode};
 
 const SEED: u64 = 1;
 const COUNT: usize = 20_000;
+/// Turns of the call comparisons, far fewer than the gate's.
+const TURNS: &str = "1000";
 
-struct Folders {
-    second: PathBuf,
-    copy: PathBuf,
-    built: PathBuf,
+/// Where a slip shows first, in each comparison that was run on it.
+#[derive(Default)]
+struct Found {
+    calls: Option<String>,
+    rehearsals: Option<String>,
 }
 
 fn main() -> ExitCode {
-    let words: Vec<String> = env::args().skip(1).collect();
-    let own_tests = words.iter().any(|word| word == "--own-tests");
-    let count = words.iter().find_map(|word| word.parse().ok()).unwrap_or(COUNT);
-    let names: Vec<&String> = words.iter().filter(|word| *word != "--own-tests" && word.parse::<usize>().is_err()).collect();
-    let root = Path::new(env!("CARGO_MANIFEST_DIR")).join("..");
-    let slipped = root.join("target/slips");
-    let folders = Folders { second: root.join("second"), copy: slipped.join("second"), built: slipped.join("built") };
-    match find_all(&folders, &names, count, own_tests) {
+    let (flags, words): (Vec<String>, Vec<String>) = env::args().skip(1).partition(|word| word.starts_with("--"));
+    let (counts, names): (Vec<String>, Vec<String>) = words.into_iter().partition(|word| word.parse::<usize>().is_ok());
+    let count = counts.first().and_then(|count| count.parse().ok()).unwrap_or(COUNT);
+    let copies = Copies::of(&Path::new(env!("CARGO_MANIFEST_DIR")).join(".."));
+    match find_all(&copies, &names, count, flags.iter().any(|flag| flag == "--table")) {
         Ok(0) => ExitCode::SUCCESS,
         Ok(_) => ExitCode::FAILURE,
         Err(error) => {
@@ -39,41 +38,69 @@ fn main() -> ExitCode {
 }
 
 /// How many slips were not found.
-fn find_all(folders: &Folders, names: &[&String], count: usize, own_tests: bool) -> io::Result<usize> {
-    let slips = read_all(&folders.second.join("slips"))?;
-    let asked: Vec<&Slip> = slips.iter().filter(|slip| names.is_empty() || names.contains(&&slip.name)).collect();
-    let (mut found, mut left) = (0, 0);
+fn find_all(copies: &Copies, names: &[String], count: usize, as_table: bool) -> io::Result<usize> {
+    let slips = copies.slips()?;
+    let asked: Vec<&Slip> = slips.iter().filter(|slip| names.is_empty() || names.contains(&slip.name)).collect();
+    let mut missed = 0;
+    let mut rows = Vec::new();
     for slip in &asked {
-        copy(&folders.second, &folders.copy)?;
-        slip.plant(&folders.copy)?;
-        if !cargo(&folders.copy, &folders.built, &["build", "--bin", "second"])? {
-            return Err(io::Error::other(format!("{}: the slipped program does not build", slip.name)));
-        }
-        let words = match slip.found_by {
-            Comparison::Rehearsals => rehearsed(folders, count)?,
-            Comparison::Calls if own_tests => {
-                (!cargo(&folders.copy, &folders.built, &["test"])?).then(|| "by the second program's own tests".into())
-            }
-            Comparison::Calls => {
-                left += 1;
-                println!("{}: left to the call comparisons", slip.name);
-                continue;
-            }
+        copies.build(slip)?;
+        let found = find(copies, slip, count)?;
+        let has_to = match slip.found_by {
+            Comparison::Calls => &found.calls,
+            Comparison::Rehearsals => &found.rehearsals,
         };
-        found += usize::from(words.is_some());
-        println!("{}: {}", slip.name, words.map_or("NOT FOUND".into(), |words| format!("found {words}")));
+        missed += usize::from(has_to.is_none());
+        eprintln!("{}: {}", slip.name, has_to.as_deref().unwrap_or("NOT FOUND"));
+        rows.push(row(slip, &found));
     }
-    println!(
-        "{} slips: {found} found, {left} left to the call comparisons, {} not found",
-        asked.len(),
-        asked.len() - found - left
-    );
-    Ok(asked.len() - found - left)
+    if as_table {
+        println!("{}\n{}", HEAD.trim_start(), rows.join("\n"));
+    }
+    eprintln!("{} slips: {} found, {missed} not found", asked.len(), asked.len() - missed);
+    Ok(missed)
 }
 
-/// The first schedule that shows the slip.
-fn rehearsed(folders: &Folders, count: usize) -> io::Result<Option<String>> {
-    let program = Program::new(&folders.built.join("debug/second"))?;
-    let tally = compare(&program, SEED, count, true)?;
-    Ok(tally.smallest.map(|difference| format!("by schedule {} ({})", difference.index, difference.kind)))
+/// The call comparisons where a call can show the slip, the rehearsals where they have to.
+fn find(copies: &Copies, slip: &Slip, count: usize) -> io::Result<Found> {
+    let mut found = Found::default();
+    if slip.concerns_calls() {
+        found.calls = called(&copies.program("calls"))?;
+    }
+    if slip.found_by == Comparison::Rehearsals {
+        let tally = compare(&Program::new(&copies.program("second"))?, SEED, count, true)?;
+        found.rehearsals = tally.smallest.map(|difference| format!("schedule {}: {}", difference.index, difference.kind));
+    }
+    Ok(found)
 }
+
+/// The first call that shows the slip.
+fn called(program: &Path) -> io::Result<Option<String>> {
+    let output = Command::new(program).args([TURNS, &SEED.to_string()]).output()?;
+    let text = String::from_utf8_lossy(&output.stdout);
+    let first = text.lines().find_map(|line| line.strip_prefix("DIFFERENT in "));
+    match first {
+        None if !output.status.success() => {
+            Err(io::Error::other(format!("{}: it ended without a difference", program.display())))
+        }
+        _ => Ok(first.map(String::from)),
+    }
+}
+
+fn row(slip: &Slip, found: &Found) -> String {
+    let cell = |words: &Option<String>| words.clone().unwrap_or_default();
+    format!("| {} | {} | {} | {} |", slip.name, slip.wrong, cell(&found.calls), cell(&found.rehearsals))
+}
+
+const HEAD: &str = "
+# Slips, and what finds each
+
+Each slip of `second/slips` is a small wrong edit of the second program. `tests/slips` plants them one by one in a copy of it, builds
+the copy, and holds it against `libhost.a` call by call, as the gate does, and against the unslipped program on the gate's 20,000
+schedules: on these the proved rehearsal and the second program write the same bytes, so that a schedule which tells the slipped
+program from the unslipped one tells it from the proved one too. The numbers are those of the first comparison that differs (seed 1).
+Where a cell is empty, that comparison was not run: the slip is in the rehearsal alone, which no call shows, or it shows in no
+schedule. This table is what the program wrote (`tests/slips --table`).
+
+| slip | what is wrong | call comparison that finds it | schedule that finds it |
+|---|---|---|---|";

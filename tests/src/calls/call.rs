@@ -32,6 +32,12 @@ fn pattern(place: usize) -> u8 {
     0xa0 | (place % 31) as u8
 }
 
+/// Nothing where nothing is lent.
+fn between_guards<T>(whole: &[T]) -> &[T] {
+    let end = whole.len().saturating_sub(GUARD);
+    whole.get(GUARD..end).unwrap_or_default()
+}
+
 impl Lent {
     pub fn node(node: &RawNode) -> Lent {
         Lent { node: Some(Box::new(*node)), ..Lent::default() }
@@ -60,7 +66,7 @@ impl Lent {
 
     /// The bytes that are lent, without their guards.
     pub fn bytes(&self) -> &[u8] {
-        self.bytes.get(GUARD..self.bytes.len() - GUARD).unwrap_or_default()
+        between_guards(&self.bytes)
     }
 
     pub fn node_and_bytes(&mut self) -> (&mut RawNode, &mut [u8]) {
@@ -74,7 +80,7 @@ impl Lent {
     }
 
     pub fn entries(&self) -> &[u64] {
-        self.entries.get(GUARD..self.entries.len() - GUARD).unwrap_or_default()
+        between_guards(&self.entries)
     }
 
     pub fn lent_entries(&mut self) -> &mut [u64] {

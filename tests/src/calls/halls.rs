@@ -81,7 +81,7 @@ fn take_round(run: &mut Run, random: &mut Random, hall: &mut Hall, round: u64) -
     let mut after = Vec::new();
     for station in &hall.correct {
         let messages = deliver(random, hall, station.me);
-        let inbox = pack(messages.iter().map(Vec::as_slice));
+        let inbox = pack(&messages);
         let step = Step { node: station.node, inbox, room: MOST_IN_MESSAGE };
         if random.chance(20) {
             let (_, cut_ill) = random.pick(ILL_CUTS);

@@ -10,9 +10,10 @@ use crate::random::Random;
 use second::calls;
 
 /// Messages one after the other, each after its length.
-pub fn pack<'a>(messages: impl IntoIterator<Item = &'a [u8]>) -> Vec<u8> {
+pub fn pack<M: AsRef<[u8]>>(messages: impl IntoIterator<Item = M>) -> Vec<u8> {
     let mut inbox = Vec::new();
     for message in messages {
+        let message = message.as_ref();
         inbox.extend((message.len() as u16).to_le_bytes());
         inbox.extend(message);
     }
@@ -50,31 +51,27 @@ pub fn well_cut(random: &mut Random, scene: &Scene) -> Vec<u8> {
         let sender = random.below(messages.len());
         messages[sender] = long(random);
     }
-    pack(messages.iter().map(Vec::as_slice))
+    pack(&messages)
 }
 
 /// A way to cut an inbox ill, by its name.
 pub type IllCut = (&'static str, fn(&mut Random, &Scene, Vec<Vec<u8>>) -> Vec<u8>);
 
-fn packed(messages: &[Vec<u8>]) -> Vec<u8> {
-    pack(messages.iter().map(Vec::as_slice))
-}
-
 pub const ILL_CUTS: &[IllCut] = &[
     ("a byte missing", |_, _, messages| {
-        let mut inbox = packed(&messages);
+        let mut inbox = pack(&messages);
         inbox.pop();
         inbox
     }),
-    ("a byte more", |random, _, messages| [packed(&messages), vec![random.below(2) as u8]].concat()),
-    ("two zero bytes more", |_, _, messages| [packed(&messages), vec![0, 0]].concat()),
+    ("a byte more", |random, _, messages| [pack(&messages), vec![random.below(2) as u8]].concat()),
+    ("two zero bytes more", |_, _, messages| [pack(&messages), vec![0, 0]].concat()),
     ("a message too few", |_, _, mut messages| {
         messages.pop();
-        packed(&messages)
+        pack(&messages)
     }),
     ("a message too many", |random, scene, mut messages| {
         messages.push(some_message(random, scene));
-        packed(&messages)
+        pack(&messages)
     }),
     ("nothing at all", |_, _, _| Vec::new()),
     ("the last length one too large", |_, scene, mut messages| {
@@ -97,14 +94,14 @@ pub const ILL_CUTS: &[IllCut] = &[
         let me = scene.sizes.me as usize;
         let rest: usize = messages[me..].iter().map(|message| 2 + message.len()).sum();
         let length = u16::try_from(rest - 1).unwrap_or(u16::MAX);
-        let mut inbox = packed(&messages);
-        let place = packed(&messages[..me]).len();
+        let mut inbox = pack(&messages);
+        let place = pack(&messages[..me]).len();
         inbox[place..place + 2].copy_from_slice(&length.to_le_bytes());
         inbox.truncate(place + 1 + usize::from(length));
         inbox
     }),
     ("cut within a length", |_, scene, messages| {
-        let mut inbox = packed(&messages[..scene.sizes.n as usize - 1]);
+        let mut inbox = pack(&messages[..scene.sizes.n as usize - 1]);
         inbox.push(0);
         inbox
     }),
@@ -112,8 +109,8 @@ pub const ILL_CUTS: &[IllCut] = &[
 
 /// Packed, with another length stated for one message.
 fn with_length(messages: Vec<Vec<u8>>, sender: usize, length: fn(u16) -> u16) -> Vec<u8> {
-    let place = packed(&messages[..sender]).len();
-    let mut inbox = packed(&messages);
+    let place = pack(&messages[..sender]).len();
+    let mut inbox = pack(&messages);
     let stated = length(messages[sender].len() as u16);
     inbox[place..place + 2].copy_from_slice(&stated.to_le_bytes());
     inbox
@@ -136,6 +133,11 @@ pub fn smaller_inboxes(n: u64, inbox: &[u8]) -> Vec<Vec<u8>> {
         for (place, &start) in starts.iter().enumerate() {
             let end = starts.get(place + 1).map_or(message.len(), |&end| end.min(message.len()));
             instead([&message[..start], &message[end..]].concat());
+            if message[start + 1] > 0 && start + 12 <= end {
+                // The same record without its first entry.
+                let head = [message[start], message[start + 1] - 1, message[start + 2], message[start + 3]];
+                instead([&message[..start], &head, &message[start + 12..]].concat());
+            }
         }
         show::cuts(message).into_iter().for_each(instead);
     }

@@ -212,7 +212,7 @@ pub fn compare_readers(run: &mut Run, random: &mut Random, turn: usize) -> Held 
     read(run, "a readable message", n, &message)?;
     read(run, "read at another n", random.between(1, 16) as u64, &message)?;
     let broken = if random.chance(50) { *random.pick(&HUGE) } else { *random.pick(&[0, 17]) };
-    run.expect("n breaks the sizes", 1, &ReadMessage(Part { n: broken, bytes: message.clone() }))?;
+    read(run, "n breaks the sizes", broken, &message)?;
     let damage = &DAMAGES[turn % DAMAGES.len()];
     let damaged = (damage.make)(random, &scene, message);
     read(run, damage.name, n, &damaged)?;

@@ -268,7 +268,7 @@ impl Breach {
 }
 
 /// The clauses of `BATCH_CLAUSES`, of the own batch, of a first and of a second kept batch.
-const NAMES: [[&str; 3]; 6] = [
+const NAMES: [[&str; 3]; BATCH_CLAUSES.len()] = [
     ["own: a count of 17", "first kept: a count of 17", "second kept: a count of 17"],
     ["own: a huge count", "first kept: a huge count", "second kept: a huge count"],
     ["own: entries out of order", "first kept: entries out of order", "second kept: entries out of order"],

@@ -177,7 +177,7 @@ fn one_damaged(run: &mut Run, random: &mut Random, scene: &Scene, turn: usize) -
     let mut messages: Vec<Vec<u8>> = (0..scene.sizes.n).map(|_| bytes(&some_votes(random, scene))).collect();
     let sender = random.below(messages.len());
     messages[sender] = (damage.make)(random, scene, messages[sender].clone());
-    let inbox = pack(messages.iter().map(Vec::as_slice));
+    let inbox = pack(&messages);
     let stepped = run.expect(damage.name, 0, &Step { node: scene.state(random), inbox, room: MOST_IN_MESSAGE })?;
     let told = stepped.answer.values[1] >> sender & 1 == 1;
     let unreadable = damage.surely && sender as u64 != scene.sizes.me;
