@@ -41,7 +41,7 @@ fn main() -> ExitCode {
 fn find_all(copies: &Copies, names: &[String], count: usize, as_table: bool) -> io::Result<usize> {
     let slips = copies.slips()?;
     let asked: Vec<&Slip> = slips.iter().filter(|slip| names.is_empty() || names.contains(&slip.name)).collect();
-    let mut missed = 0;
+    let (mut missed, mut by_calls) = (0, 0);
     let mut rows = Vec::new();
     for slip in &asked {
         copies.build(slip)?;
@@ -51,11 +51,13 @@ fn find_all(copies: &Copies, names: &[String], count: usize, as_table: bool) -> 
             Comparison::Rehearsals => &found.rehearsals,
         };
         missed += usize::from(has_to.is_none());
+        by_calls += usize::from(found.calls.is_some());
         eprintln!("{}: {}", slip.name, has_to.as_deref().unwrap_or("NOT FOUND"));
         rows.push(row(slip, &found));
     }
     if as_table {
-        println!("{}\n{}", HEAD.trim_start(), rows.join("\n"));
+        let table = format!("{}\n{}", HEAD.trim_start(), rows.join("\n"));
+        println!("{table}\n\n{} slips, {by_calls} of them found against `libhost.a`, {missed} not found.", asked.len());
     }
     eprintln!("{} slips: {} found, {missed} not found", asked.len(), asked.len() - missed);
     Ok(missed)
@@ -95,12 +97,14 @@ fn row(slip: &Slip, found: &Found) -> String {
 const HEAD: &str = "
 # Slips, and what finds each
 
-Each slip of `second/slips` is a small wrong edit of the second program. `tests/slips` plants them one by one in a copy of it, builds
-the copy, and holds it against `libhost.a` call by call, as the gate does, and against the unslipped program on the gate's 20,000
-schedules: on these the proved rehearsal and the second program write the same bytes, so that a schedule which tells the slipped
-program from the unslipped one tells it from the proved one too. The numbers are those of the first comparison that differs (seed 1).
-Where a cell is empty, that comparison was not run: the slip is in the rehearsal alone, which no call shows, or it shows in no
-schedule. This table is what the program wrote (`tests/slips --table`).
+Each slip of `second/slips` is a small wrong edit of the second program. `tests/slips` plants them one by one in a copy of it and builds
+the copy. The third column is the first comparison with `libhost.a` that differs, in the order in which `tests/run` makes them (seed 1,
+the first 1,000 turns). The fourth is the first generated schedule (seed 1, up to 20,000) on which the slipped program and the unslipped
+second program print different bytes: the proved rehearsal has no part in that column. What the gate's comparison of the proved rehearsal
+with the second program would find follows from it only where these two agree on that schedule.
+
+An empty cell says that the comparison was not run on that slip: no call is run where the edit is in the rehearsal alone, no schedule
+where the slip's file names the calls. This page is what `tests/slips --table` printed.
 
 | slip | what is wrong | call comparison that finds it | schedule that finds it |
 |---|---|---|---|";

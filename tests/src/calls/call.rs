@@ -98,7 +98,7 @@ impl Lent {
 }
 
 /// A call with its inputs.
-pub trait Call: Clone {
+pub trait Call: Clone + PartialEq {
     const NAME: &'static str;
     /// The names of the answer's values.
     const VALUES: &'static [&'static str];

@@ -155,7 +155,7 @@ fn cut(n: u64, mut rest: &[u8]) -> Option<Vec<&[u8]>> {
     rest.is_empty().then_some(messages)
 }
 
-#[derive(Clone)]
+#[derive(Clone, PartialEq)]
 pub struct ReadInbox {
     pub n: u64,
     pub me: u64,

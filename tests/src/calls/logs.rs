@@ -10,7 +10,7 @@ use super::states::{batch, breaches, kept, Scene};
 use crate::random::Random;
 use second::{calls, RawNode};
 
-#[derive(Clone)]
+#[derive(Clone, PartialEq)]
 pub struct Close {
     pub node: RawNode,
     pub old: Vec<u64>,
@@ -49,7 +49,7 @@ impl Call for Close {
     }
 }
 
-#[derive(Clone)]
+#[derive(Clone, PartialEq)]
 pub struct Bar {
     pub log: Vec<u64>,
     pub meter: u16,

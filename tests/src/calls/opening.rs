@@ -10,7 +10,7 @@ use super::trays::{some_tray, tray_of, unsound_tray, BATCH_CLAUSES};
 use crate::random::Random;
 use second::{calls, RawNode, RawTray};
 
-#[derive(Clone)]
+#[derive(Clone, PartialEq)]
 pub struct New(pub Sizes);
 
 impl Call for New {
@@ -48,7 +48,7 @@ impl Call for New {
     }
 }
 
-#[derive(Clone)]
+#[derive(Clone, PartialEq)]
 pub struct Open {
     pub node: RawNode,
     pub tray: RawTray,

@@ -11,7 +11,7 @@ use crate::random::Random;
 use second::calls::{self, MessageReading, RecordReading};
 
 /// n and some bytes: what the three readers are handed.
-#[derive(Clone)]
+#[derive(Clone, PartialEq)]
 pub struct Part {
     pub n: u64,
     pub bytes: Vec<u8>,
@@ -30,7 +30,7 @@ impl Part {
 /// The three readers have the same inputs and change nothing.
 macro_rules! reader {
     ($call:ident, $name:literal, $values:expr, $proved:expr, $second:expr) => {
-        #[derive(Clone)]
+        #[derive(Clone, PartialEq)]
         pub struct $call(pub Part);
 
         impl Call for $call {
@@ -115,7 +115,7 @@ reader!(
     }
 );
 
-#[derive(Clone)]
+#[derive(Clone, PartialEq)]
 pub struct WriteRecord {
     pub n: u64,
     pub primary: u64,

@@ -80,6 +80,8 @@ pub fn quiet_second_program() {
 /// Both outcomes of one input; the second program has none where it panics.
 struct Asked {
     before: Lent,
+    /// Whether what libhost.a was handed to read is as it was.
+    kept: bool,
     proved: Outcome,
     second: Option<Outcome>,
 }
@@ -87,11 +89,12 @@ struct Asked {
 impl Asked {
     fn new<C: Call>(input: &C) -> Asked {
         let before = input.lent();
+        let handed = input.clone();
         let mut lent = before.clone();
-        let proved = Outcome { answer: input.proved(&mut lent), lent };
+        let proved = Outcome { answer: handed.proved(&mut lent), lent };
         let mut lent = before.clone();
         let answer = unless_it_panics(|| input.second(&mut lent));
-        Asked { before, proved, second: answer.map(|answer| Outcome { answer, lent }) }
+        Asked { before, kept: handed == *input, proved, second: answer.map(|answer| Outcome { answer, lent }) }
     }
 
     /// What is wrong, if anything is.
@@ -100,7 +103,9 @@ impl Asked {
             return Some("the second program panics".into());
         };
         let Outcome { answer: Answer { number, values }, lent } = &self.proved;
-        if self.proved.answer != second.answer {
+        if !self.kept {
+            Some("libhost.a changes what it was handed to read".into())
+        } else if self.proved.answer != second.answer {
             Some("the answers differ".into())
         } else if self.proved.lent != second.lent {
             let place = lent.first_difference(&second.lent);

@@ -9,7 +9,7 @@ use second::calls;
 
 const SLOT: usize = 33;
 
-#[derive(Clone)]
+#[derive(Clone, PartialEq)]
 pub struct Signers {
     pub sizes: Sizes,
     pub mark: [u8; 32],

@@ -11,7 +11,7 @@ use super::states::{batch, breaches, Scene};
 use crate::random::Random;
 use second::{calls, RawNode};
 
-#[derive(Clone)]
+#[derive(Clone, PartialEq)]
 pub struct Step {
     pub node: RawNode,
     pub inbox: Vec<u8>,

@@ -76,7 +76,7 @@ pub fn unsound_tray(random: &mut Random, (_, break_it): &BatchClause) -> RawTray
     tray
 }
 
-#[derive(Clone)]
+#[derive(Clone, PartialEq)]
 pub struct Put {
     pub tray: RawTray,
     pub entry: u64,
@@ -120,7 +120,7 @@ impl Call for Put {
 }
 
 /// The same on the places and the count alone; the second program puts into a tray of them.
-#[derive(Clone)]
+#[derive(Clone, PartialEq)]
 pub struct Place(pub Put);
 
 impl Call for Place {
