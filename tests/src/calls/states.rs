@@ -65,12 +65,14 @@ fn some_kept(random: &mut Random, pool: &[Batch]) -> RawKept {
     }
 }
 
-/// A clause of a state's soundness, by the name of its breach. What breaks it is handed a sound state with a primary
-/// other than the node itself, and says whether such a state can be broken so.
+/// A clause of a state's soundness, by the name of its breach. What breaks it is handed a sound state with some other
+/// primary, which a node alone has not. It answers nothing where there is no such breach of that state.
 pub struct Clause {
     pub name: &'static str,
-    break_it: fn(&mut Random, &mut RawNode, usize) -> bool,
+    break_it: Break,
 }
+
+type Break = fn(&mut Random, &mut RawNode, Option<usize>) -> Option<()>;
 
 /// Sizes.
 const SIZES: &[Clause] = &[
@@ -90,7 +92,7 @@ const PLACES: &[Clause] = &[
     clause("an own batch in phase 0", |random, node, _| {
         node.own = nonempty(random);
         *node = RawNode { phase: 0, kept: RawNode::default().kept, ..*node };
-        true
+        Some(())
     }),
     clause("an own place not zero in phase 0", |random, node, _| {
         *node = RawNode { phase: 0, own: RawBatch::default(), kept: RawNode::default().kept, ..*node };
@@ -98,11 +100,11 @@ const PLACES: &[Clause] = &[
     }),
     clause("a batch kept in phase 0", |random, node, other| {
         *node = RawNode { phase: 0, own: RawBatch::default(), kept: RawNode::default().kept, ..*node };
-        keep(random, node, other)
+        keep(random, node, other?)
     }),
     clause("a batch kept in phase 1", |random, node, other| {
         *node = RawNode { phase: 1, kept: RawNode::default().kept, ..*node };
-        keep(random, node, other)
+        keep(random, node, other?)
     }),
     clause("a batch kept for itself", |random, node, _| {
         let me = node.me as usize;
@@ -113,75 +115,76 @@ const PLACES: &[Clause] = &[
         let me = node.me as usize;
         set(random_place(random, &mut node.kept[me].first.entries), 7)
     }),
-    clause("a batch kept for a number from n up", |random, node, _| match above(random, node) {
-        Some(primary) => keep(random, node, primary),
-        None => false,
+    clause("a batch kept for a number from n up", |random, node, _| {
+        let primary = above(random, node)?;
+        keep(random, node, primary)
     }),
     clause("the empty batch kept for a number from n up", |random, node, _| {
-        above(random, node).is_some_and(|primary| set(&mut node.kept[primary].count, 1))
+        let primary = above(random, node)?;
+        set(&mut node.kept[primary].count, 1)
     }),
-    clause("a kept place of a number from n up not zero", |random, node, _| match above(random, node) {
-        Some(primary) => set(random_place(random, &mut node.kept[primary].second.entries), u64::MAX),
-        None => false,
+    clause("a kept place of a number from n up not zero", |random, node, _| {
+        let primary = above(random, node)?;
+        set(random_place(random, &mut node.kept[primary].second.entries), u64::MAX)
     }),
 ];
 
 /// What is kept for another primary.
 const KEPT: &[Clause] = &[
     clause("three batches kept", |random, node, other| {
-        node.kept[other] = two(random);
-        set(&mut node.kept[other].count, 3)
+        node.kept[other?] = two(random);
+        set(&mut node.kept[other?].count, 3)
     }),
     clause("a huge count of batches kept", |random, node, other| {
-        node.kept[other] = two(random);
-        set(&mut node.kept[other].count, *random.pick(&[256, 258, 1 << 32, (1 << 32) + 1, 1 << 63, u64::MAX]))
+        node.kept[other?] = two(random);
+        set(&mut node.kept[other?].count, *random.pick(&[256, 258, 1 << 32, (1 << 32) + 1, 1 << 63, u64::MAX]))
     }),
     clause("the same batch kept twice", |random, node, other| {
         let batch = nonempty(random);
-        node.kept[other] = RawKept { count: 2, first: batch, second: batch };
-        true
+        node.kept[other?] = RawKept { count: 2, first: batch, second: batch };
+        Some(())
     }),
     clause("the empty batch kept twice", |_, node, other| {
-        node.kept[other] = RawKept { count: 2, ..RawKept::default() };
-        true
+        node.kept[other?] = RawKept { count: 2, ..RawKept::default() };
+        Some(())
     }),
     clause("one batch kept, the second place not zero", |random, node, other| {
-        node.kept[other] = RawKept { count: 1, ..two(random) };
-        true
+        node.kept[other?] = RawKept { count: 1, ..two(random) };
+        Some(())
     }),
     clause("one batch kept, an entry in the second place", |random, node, other| {
-        node.kept[other] = RawKept { count: 1, second: RawBatch::default(), ..two(random) };
-        set(random_place(random, &mut node.kept[other].second.entries), 1)
+        node.kept[other?] = RawKept { count: 1, second: RawBatch::default(), ..two(random) };
+        set(random_place(random, &mut node.kept[other?].second.entries), 1)
     }),
     clause("one batch kept, a count in the second place", |random, node, other| {
-        node.kept[other] = RawKept { count: 1, second: RawBatch::default(), ..two(random) };
-        set(&mut node.kept[other].second.count, 1)
+        node.kept[other?] = RawKept { count: 1, second: RawBatch::default(), ..two(random) };
+        set(&mut node.kept[other?].second.count, 1)
     }),
     clause("none kept, the first place not zero", |random, node, other| {
-        node.kept[other] = RawKept { first: nonempty(random), ..RawKept::default() };
-        true
+        node.kept[other?] = RawKept { first: nonempty(random), ..RawKept::default() };
+        Some(())
     }),
     clause("none kept, the second place not zero", |random, node, other| {
-        node.kept[other] = RawKept { second: nonempty(random), ..RawKept::default() };
-        true
+        node.kept[other?] = RawKept { second: nonempty(random), ..RawKept::default() };
+        Some(())
     }),
     clause("none kept, a count in the first place", |_, node, other| {
-        node.kept[other] = RawKept::default();
-        set(&mut node.kept[other].first.count, 1)
+        node.kept[other?] = RawKept::default();
+        set(&mut node.kept[other?].first.count, 1)
     }),
     clause("none kept, an entry in a place", |random, node, other| {
-        node.kept[other] = RawKept::default();
-        set(random_place(random, &mut node.kept[other].first.entries), 1)
+        node.kept[other?] = RawKept::default();
+        set(random_place(random, &mut node.kept[other?].first.entries), 1)
     }),
 ];
 
-const fn clause(name: &'static str, break_it: fn(&mut Random, &mut RawNode, usize) -> bool) -> Clause {
+const fn clause(name: &'static str, break_it: Break) -> Clause {
     Clause { name, break_it }
 }
 
-fn set(place: &mut u64, number: u64) -> bool {
+fn set(place: &mut u64, number: u64) -> Option<()> {
     *place = number;
-    true
+    Some(())
 }
 
 fn random_place<'a>(random: &mut Random, places: &'a mut [u64; 16]) -> &'a mut u64 {
@@ -198,9 +201,9 @@ fn two(random: &mut Random) -> RawKept {
     kept(&[&pool[1], &pool[2]])
 }
 
-fn keep(random: &mut Random, node: &mut RawNode, primary: usize) -> bool {
+fn keep(random: &mut Random, node: &mut RawNode, primary: usize) -> Option<()> {
     node.kept[primary] = RawKept { count: 1, first: nonempty(random), ..RawKept::default() };
-    true
+    Some(())
 }
 
 /// A number from n up that has a place in a state.
@@ -243,27 +246,32 @@ impl Breach {
     /// The sound state with this breach, unless there is no such state: the node is alone, or n is 16.
     pub fn of(self, random: &mut Random, sound: &RawNode) -> Option<RawNode> {
         let mut node = *sound;
-        let other = (0..sound.n as usize).find(|&primary| primary as u64 != sound.me);
-        let broken = match self {
-            Breach::Clause(clause) => (clause.break_it)(random, &mut node, other?),
+        let others: Vec<usize> = (0..sound.n as usize).filter(|&primary| primary as u64 != sound.me).collect();
+        let other = (!others.is_empty()).then(|| *random.pick(&others));
+        match self {
+            Breach::Clause(clause) => (clause.break_it)(random, &mut node, other)?,
             Breach::Batch(clause, which) => {
-                let kept = &mut node.kept[other?];
-                if which != Which::Own {
-                    *kept = RawKept { count: 1 + u64::from(which == Which::Second), ..two(random) };
-                }
-                if which == Which::First {
-                    kept.second = RawBatch::default();
-                }
-                let batch = match which {
-                    Which::Own => &mut node.own,
-                    Which::First => &mut kept.first,
-                    Which::Second => &mut kept.second,
-                };
+                let batch = which.batch_of(random, &mut node, other)?;
                 (BATCH_CLAUSES[clause].1)(random, &mut batch.count, &mut batch.entries);
-                true
             }
-        };
-        broken.then_some(node)
+        }
+        Some(node)
+    }
+}
+
+impl Which {
+    /// This batch of the state; one kept for another primary is made to be there.
+    fn batch_of<'a>(self, random: &mut Random, node: &'a mut RawNode, other: Option<usize>) -> Option<&'a mut RawBatch> {
+        if self == Which::Own {
+            return Some(&mut node.own);
+        }
+        let kept = &mut node.kept[other?];
+        *kept = two(random);
+        if self == Which::Second {
+            return Some(&mut kept.second);
+        }
+        (kept.count, kept.second) = (1, RawBatch::default());
+        Some(&mut kept.first)
     }
 }
 
