@@ -47,7 +47,7 @@ pub fn svg(all: &[Growth]) -> String {
 }
 
 fn panel(svg: &mut String, growth: &Growth, left: f64) {
-    let most = growth.points.iter().flat_map(|point| [point.proved, point.second]).fold(0.0, f64::max);
+    let most = growth.points.iter().flat_map(|point| [point.contest.proved(), point.contest.second()]).fold(0.0, f64::max);
     let right_value = growth.points.last().map_or(1, |point| point.at) as f64;
     let axes = Axes { left, right_value, top_value: round_up(most) };
     text(svg, left + WIDTH / 2.0, 18.0, "middle", &format!("{}: microseconds over {}", growth.name, growth.over));
@@ -56,7 +56,7 @@ fn panel(svg: &mut String, growth: &Growth, left: f64) {
         svg,
         &axes,
         &growth.points,
-        |point| point.proved,
+        |point| point.contest.proved(),
         "",
         |svg, x, y| {
             let _ = writeln!(svg, "<circle cx=\"{x:.1}\" cy=\"{y:.1}\" r=\"3\"/>");
@@ -66,7 +66,7 @@ fn panel(svg: &mut String, growth: &Growth, left: f64) {
         svg,
         &axes,
         &growth.points,
-        |point| point.second,
+        |point| point.contest.second(),
         " stroke-dasharray=\"5 4\"",
         |svg, x, y| {
             let (x, y) = (x - 3.0, y - 3.0);

@@ -1,5 +1,5 @@
 //! The figures as tables, and which goals they meet.
-use crate::growth::Growth;
+use crate::growth::{Growth, Point};
 use crate::rows::Row;
 use std::fmt::Write;
 
@@ -22,11 +22,12 @@ fn calls(out: &mut String, rows: &[Row]) {
     out.push_str("| call | proved / second | proved / plain | proved, µs | second, µs | plain, µs | stack proved, bytes | stack second, bytes |\n");
     out.push_str("|---|---:|---:|---:|---:|---:|---:|---:|\n");
     for row in rows {
-        let ratio = row.plain.map_or(String::new(), |plain| format!("{:.2}", row.proved / plain));
-        let plain = row.plain.map_or(String::new(), micros);
-        let Row { name, proved, second, proved_stack, second_stack, .. } = row;
-        let (own, other) = (micros(*proved), micros(*second));
-        let _ = writeln!(out, "| {name} | {:.2} | {ratio} | {own} | {other} | {plain} | {proved_stack} | {second_stack} |", proved / second);
+        let Row { contest, stacks: (proved_stack, second_stack) } = row;
+        let (name, proved, second) = (&contest.name, contest.proved(), contest.second());
+        let to_plain = contest.plain().map_or(String::new(), |plain| format!("{:.2}", proved / plain));
+        let plain = contest.plain().map_or(String::new(), micros);
+        let (ratio, proved, second) = (proved / second, micros(proved), micros(second));
+        let _ = writeln!(out, "| {name} | {ratio:.2} | {to_plain} | {proved} | {second} | {plain} | {proved_stack} | {second_stack} |");
     }
 }
 
@@ -43,12 +44,13 @@ fn goals(out: &mut String, rows: &[Row], growths: &[Growth]) {
     let mut goal = |goal: &str, figure: String, met: bool| {
         let _ = writeln!(out, "| {goal} | {figure} | {} |", if met { "yes" } else { "no" });
     };
-    let slower: Vec<&Row> = rows.iter().filter(|row| row.proved > row.second).collect();
-    let slowest = rows.iter().map(|row| row.proved / row.second).fold(0.0, f64::max);
-    goal("no call slower than the second program", format!("{slowest:.2} times; {} of {} rows slower", slower.len(), rows.len()), slower.is_empty());
-    let steps = rows.iter().filter_map(|row| row.plain.map(|plain| row.proved / plain)).fold(0.0, f64::max);
+    let ratios: Vec<f64> = rows.iter().map(|row| row.contest.proved() / row.contest.second()).collect();
+    let (slowest, slower) = (most(&ratios), ratios.iter().filter(|&&ratio| ratio > 1.0).count());
+    goal("no call slower than the second program", format!("{slowest:.2} times; {slower} of {} rows slower", rows.len()), slower == 0);
+    let steps: Vec<f64> = rows.iter().filter_map(|row| Some(row.contest.proved() / row.contest.plain()?)).collect();
+    let steps = most(&steps);
     goal("a step at n = 16 within 3 times the plain loop", format!("{steps:.2} times"), steps <= PLAIN_MOST);
-    let stack = rows.iter().map(|row| row.proved_stack).max().unwrap_or(0);
+    let stack = rows.iter().map(|row| row.stacks.0).max().unwrap_or(0);
     goal("each call within 64 KiB of stack", format!("{stack} bytes"), stack <= STACK_MOST);
     if let Some(close) = growths.iter().find(|growth| growth.name == "close") {
         let doubled = doubled(close);
@@ -58,13 +60,19 @@ fn goals(out: &mut String, rows: &[Row], growths: &[Growth]) {
 
 /// The most that the time is multiplied by where what grows is doubled.
 fn doubled(growth: &Growth) -> f64 {
-    let at = |wanted: usize| growth.points.iter().find(|point| point.at == wanted).map(|point| point.proved);
-    growth.points.iter().filter_map(|point| Some(at(2 * point.at)? / point.proved)).fold(0.0, f64::max)
+    let at = |wanted: usize| growth.points.iter().find(|point| point.at == wanted).map(|point| point.contest.proved());
+    let doubled: Vec<f64> = growth.points.iter().filter_map(|point| Some(at(2 * point.at)? / point.contest.proved())).collect();
+    most(&doubled)
+}
+
+fn most(figures: &[f64]) -> f64 {
+    figures.iter().copied().fold(0.0, f64::max)
 }
 
 fn grown(out: &mut String, growth: &Growth) {
     let _ = writeln!(out, "\n| {}: {} | proved, µs | second, µs | proved / second |\n|---:|---:|---:|---:|", growth.name, growth.over);
-    for point in &growth.points {
-        let _ = writeln!(out, "| {} | {} | {} | {:.2} |", point.at, micros(point.proved), micros(point.second), point.proved / point.second);
+    for Point { at, contest } in &growth.points {
+        let (proved, second) = (contest.proved(), contest.second());
+        let _ = writeln!(out, "| {at} | {} | {} | {:.2} |", micros(proved), micros(second), proved / second);
     }
 }

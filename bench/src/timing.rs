@@ -2,10 +2,10 @@
 use std::time::{Duration, Instant};
 
 /// What is timed, so many turns of it at a time.
-pub type Turns<'a> = Box<dyn FnMut(usize) + Send + 'a>;
+pub type Turns = Box<dyn FnMut(usize) + Send>;
 
 /// The loop stands inside, so that a turn costs no call through a pointer.
-pub fn turns<'a>(mut turn: impl FnMut() + Send + 'a) -> Turns<'a> {
+pub fn turns(mut turn: impl FnMut() + Send + 'static) -> Turns {
     Box::new(move |many| {
         for _ in 0..many {
             turn();
@@ -23,7 +23,7 @@ fn time(turns: &mut Turns, many: usize) -> Duration {
 }
 
 /// How many turns make a slice.
-fn slice_of(turns: &mut Turns) -> usize {
+pub fn slice_of(turns: &mut Turns) -> usize {
     let mut many = 1;
     while time(turns, many) < SLICE {
         many *= 2;
@@ -31,16 +31,13 @@ fn slice_of(turns: &mut Turns) -> usize {
     many
 }
 
-/// Microseconds of one turn of each. Slices of all are taken by turns until the time is over, and the least of each counts: what else the machine does
+/// Microseconds of one turn of each, if less than the least so far. Slices of all are taken by turns until the time is over: what else the machine does
 /// makes a slice longer, never shorter.
-pub fn least_micros(all: &mut [Turns], over: Duration) -> Vec<f64> {
-    let slices: Vec<usize> = all.iter_mut().map(slice_of).collect();
-    let mut least = vec![f64::MAX; all.len()];
+pub fn least_micros(all: &mut [Turns], slices: &[usize], least: &mut [f64], over: Duration) {
     let start = Instant::now();
     while start.elapsed() < over {
-        for ((turns, &many), least) in all.iter_mut().zip(&slices).zip(&mut least) {
+        for ((turns, &many), least) in all.iter_mut().zip(slices).zip(least.iter_mut()) {
             *least = least.min(time(turns, many).as_secs_f64() * 1e6 / many as f64);
         }
     }
-    least
 }

@@ -1,0 +1,90 @@
+//! An entry put into a tray, an opening, a step.
+use super::for_good;
+use crate::contest::Contest;
+use crate::inputs::{batch_of, full_inbox, opened, plain_of, raw_of, tray_of, Says};
+use raudokiin::{calls, Tray, BATCH_MOST, MESSAGE_MOST, NODES_MOST, RECORD_MOST};
+use second::calls as seconds;
+use second::RawTray;
+use std::hint::black_box;
+
+fn raw_tray(tray: &Tray) -> RawTray {
+    RawTray { count: tray.count as u64, entries: tray.entries }
+}
+
+/// The entry goes below all others, so that each moves up.
+pub fn put() -> Contest {
+    let entries = batch_of(3, 0);
+    let tray = tray_of(&entries[1..]);
+    let raw = raw_tray(&tray);
+    let (mut with, mut raw_with) = (tray, raw);
+    assert_eq!(calls::put(&mut with, entries[0]) as u64, seconds::put(&mut raw_with, entries[0]));
+    assert!(with.count == BATCH_MOST && raw_tray(&with) == raw_with, "an entry is put differently");
+    Contest::new(
+        "put an entry into a tray of 15",
+        move || {
+            let mut with = *black_box(&tray);
+            black_box(calls::put(black_box(&mut with), black_box(entries[0])));
+        },
+        move || {
+            let mut with = *black_box(&raw);
+            black_box(seconds::put(black_box(&mut with), black_box(entries[0])));
+        },
+    )
+}
+
+pub fn open() -> Contest {
+    let me = NODES_MOST - 1;
+    let node = calls::new(NODES_MOST, 7, me).node;
+    let tray = tray_of(&batch_of(me, 0));
+    let (raw, raw_of_tray) = (raw_of(&node), raw_tray(&tray));
+    let [outbox, seconds_outbox] = [[0u8; RECORD_MOST]; 2].map(for_good);
+    let opened = calls::open(node, tray, outbox);
+    let mut after = raw;
+    let answer = seconds::open(&mut after, &raw_of_tray, seconds_outbox);
+    assert_eq!((opened.number as u64, opened.length as u64), (answer.number, answer.value));
+    assert!(opened.length == RECORD_MOST && raw_of(&opened.node) == after && outbox == seconds_outbox, "openings differ");
+    Contest::new(
+        "open with 16 entries, n = 16",
+        move || {
+            black_box(calls::open(*black_box(&node), *black_box(&tray), black_box(outbox)));
+        },
+        move || {
+            let mut after = *black_box(&raw);
+            black_box(seconds::open(&mut after, black_box(&raw_of_tray), black_box(seconds_outbox)));
+            black_box(&after);
+        },
+    )
+}
+
+/// Round 1 of the last of n nodes, with 3,960 bytes from each other.
+pub fn step(n: usize, says: Says, name: &str) -> Contest {
+    let inbox: &[u8] = for_good(full_inbox(n, n - 1, says));
+    let node = opened(n);
+    let (raw, state) = (raw_of(&node), plain_of(&node));
+    let [outbox, seconds_outbox, plain_outbox] = [[0u8; MESSAGE_MOST]; 3].map(for_good);
+    let stepped = calls::step(node, inbox, outbox);
+    let mut raw_after = raw;
+    let answer = seconds::step(&mut raw_after, inbox, seconds_outbox);
+    assert_eq!((stepped.number as u64, stepped.length as u64, stepped.unreadable), (answer.number, answer.length, answer.unreadable));
+    assert!(stepped.number == 0 && raw_of(&stepped.node) == raw_after && outbox == seconds_outbox, "steps of {n} nodes differ");
+    let mut state_after = state.clone();
+    assert_eq!(state_after.step(inbox, plain_outbox), Some((stepped.length, stepped.unreadable)));
+    assert!(plain_of(&stepped.node) == state_after && outbox == plain_outbox, "the plain step of {n} nodes differs");
+    let plain = move || {
+        let mut after = black_box(&state).clone();
+        black_box(after.step(black_box(inbox), black_box(plain_outbox)));
+        black_box(&after);
+    };
+    Contest::new(
+        name,
+        move || {
+            black_box(calls::step(*black_box(&node), black_box(inbox), black_box(outbox)));
+        },
+        move || {
+            let mut after = *black_box(&raw);
+            black_box(seconds::step(&mut after, black_box(inbox), black_box(seconds_outbox)));
+            black_box(&after);
+        },
+    )
+    .and(plain)
+}
