@@ -1,7 +1,7 @@
 //! How the times grow: a step over the number of nodes, a close and a bar over the length of the log.
-use crate::calls::{log, node};
+use crate::calls::{for_good, log, node};
 use crate::contest::Contest;
-use crate::inputs::{log_of, Says, METERS, NOW};
+use crate::inputs::{full_inbox, log_of, Says, METERS, NOW};
 use raudokiin::NODES_MOST;
 
 pub struct Growth {
@@ -18,7 +18,8 @@ pub struct Point {
 
 pub fn all() -> [Growth; 3] {
     let lengths = 1..=NOW + 1;
-    let steps = (1..=NODES_MOST).map(|n| Point { at: n, contest: node::step(n, Says::OneTwice, "") });
+    let inbox = |n: usize| for_good(full_inbox(n, n - 1, Says::OneTwice));
+    let steps = (1..=NODES_MOST).map(|n| Point { at: n, contest: node::step(n, inbox(n), "") });
     let closes = lengths.clone().map(|intervals| Point { at: METERS * intervals, contest: log::close(intervals, "") });
     let bars = lengths.map(|intervals| Point { at: METERS * intervals, contest: log::bar(log_of(intervals), "") });
     [

@@ -1,13 +1,21 @@
 //! The rows of the table.
-use crate::calls::{hall, log, node, wire};
+use crate::calls::{for_good, hall, log, node, wire};
 use crate::contest::Contest;
-use crate::inputs::{log_of, log_of_one_meter, Says};
+use crate::inputs::{full_inbox, log_of, log_of_one_meter, Says};
 use raudokiin::{LOG_MOST, NODES_MOST};
 
 pub struct Row {
     pub contest: Contest,
     /// Bytes of stack, of the proved program and of the second one.
     pub stacks: (usize, usize),
+}
+
+const SILENCE: [u8; 2 * NODES_MOST] = [0; 2 * NODES_MOST];
+
+/// A step by both programs and by the plain loop.
+fn full_step(says: Says, name: &str) -> Contest {
+    let inbox = for_good(full_inbox(NODES_MOST, NODES_MOST - 1, says));
+    node::step(NODES_MOST, inbox, name).and(node::plain_step(NODES_MOST, inbox))
 }
 
 pub fn all() -> Vec<Row> {
@@ -17,8 +25,9 @@ pub fn all() -> Vec<Row> {
         wire::read_message(),
         node::put(),
         node::open(),
-        node::step(NODES_MOST, Says::Two, "step, n = 16, 15 messages of 3,960 bytes: two batches of each primary"),
-        node::step(NODES_MOST, Says::OneTwice, "step, n = 16, 15 messages of 3,960 bytes: one batch of each primary, twice"),
+        full_step(Says::Two, "step, n = 16, 15 messages of 3,960 bytes: two batches of each primary"),
+        full_step(Says::OneTwice, "step, n = 16, 15 messages of 3,960 bytes: one batch of each primary, twice"),
+        node::step(NODES_MOST, &SILENCE, "step, n = 16, everyone silent"),
         log::close(16, "close, 3,840 old and 256 decided: 4,096"),
         log::close(1, "close, none old and 256 decided: 256"),
         log::bar(log_of(16), "bar over 4,096 entries, of which 16 count"),

@@ -5,6 +5,6 @@ pub mod node;
 pub mod wire;
 
 /// An input or an output for as long as the program runs, so that contests can share it and be timed again and again.
-fn for_good<T>(value: T) -> &'static mut T {
+pub fn for_good<T>(value: T) -> &'static mut T {
     Box::leak(Box::new(value))
 }

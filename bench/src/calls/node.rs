@@ -1,7 +1,7 @@
 //! An entry put into a tray, an opening, a step.
 use super::for_good;
 use crate::contest::Contest;
-use crate::inputs::{batch_of, full_inbox, opened, plain_of, raw_of, tray_of, Says};
+use crate::inputs::{batch_of, opened, plain_of, raw_of, tray_of};
 use raudokiin::{calls, Tray, BATCH_MOST, MESSAGE_MOST, NODES_MOST, RECORD_MOST};
 use second::calls as seconds;
 use second::RawTray;
@@ -56,25 +56,16 @@ pub fn open() -> Contest {
     )
 }
 
-/// Round 1 of the last of n nodes, with 3,960 bytes from each other.
-pub fn step(n: usize, says: Says, name: &str) -> Contest {
-    let inbox: &[u8] = for_good(full_inbox(n, n - 1, says));
+/// Round 1 of the last of n nodes.
+pub fn step(n: usize, inbox: &'static [u8], name: &str) -> Contest {
     let node = opened(n);
-    let (raw, state) = (raw_of(&node), plain_of(&node));
-    let [outbox, seconds_outbox, plain_outbox] = [[0u8; MESSAGE_MOST]; 3].map(for_good);
+    let raw = raw_of(&node);
+    let [outbox, seconds_outbox] = [[0u8; MESSAGE_MOST]; 2].map(for_good);
     let stepped = calls::step(node, inbox, outbox);
-    let mut raw_after = raw;
-    let answer = seconds::step(&mut raw_after, inbox, seconds_outbox);
+    let mut after = raw;
+    let answer = seconds::step(&mut after, inbox, seconds_outbox);
     assert_eq!((stepped.number as u64, stepped.length as u64, stepped.unreadable), (answer.number, answer.length, answer.unreadable));
-    assert!(stepped.number == 0 && raw_of(&stepped.node) == raw_after && outbox == seconds_outbox, "steps of {n} nodes differ");
-    let mut state_after = state.clone();
-    assert_eq!(state_after.step(inbox, plain_outbox), Some((stepped.length, stepped.unreadable)));
-    assert!(plain_of(&stepped.node) == state_after && outbox == plain_outbox, "the plain step of {n} nodes differs");
-    let plain = move || {
-        let mut after = black_box(&state).clone();
-        black_box(after.step(black_box(inbox), black_box(plain_outbox)));
-        black_box(&after);
-    };
+    assert!(stepped.number == 0 && raw_of(&stepped.node) == after && outbox == seconds_outbox, "steps of {n} nodes differ");
     Contest::new(
         name,
         move || {
@@ -86,5 +77,20 @@ pub fn step(n: usize, says: Says, name: &str) -> Contest {
             black_box(&after);
         },
     )
-    .and(plain)
+}
+
+/// The same by the plain loop.
+pub fn plain_step(n: usize, inbox: &'static [u8]) -> impl FnMut() + Send {
+    let node = opened(n);
+    let state = plain_of(&node);
+    let [outbox, plain_outbox] = [[0u8; MESSAGE_MOST]; 2].map(for_good);
+    let stepped = calls::step(node, inbox, outbox);
+    let mut after = state.clone();
+    assert_eq!(after.step(inbox, plain_outbox), Some((stepped.length, stepped.unreadable)));
+    assert!(stepped.number == 0 && plain_of(&stepped.node) == after && outbox == plain_outbox, "the plain step of {n} nodes differs");
+    move || {
+        let mut after = black_box(&state).clone();
+        black_box(after.step(black_box(inbox), black_box(plain_outbox)));
+        black_box(&after);
+    }
 }
