@@ -27,10 +27,10 @@ impl Axes {
     }
 }
 
-/// The least of 1, 2, 4 or 8 times a power of ten that is the value or more: a quarter of it has few digits.
+/// The least of a few round numbers that is the value or more: a quarter of it has few digits.
 fn round_up(value: f64) -> f64 {
     let ten = 10f64.powf(value.log10().floor());
-    [1.0, 2.0, 4.0, 8.0, 10.0].into_iter().map(|times| times * ten).find(|&round| value <= round).unwrap_or(value)
+    [1.0, 1.2, 1.6, 2.0, 3.0, 4.0, 5.0, 6.0, 8.0, 10.0].into_iter().map(|times| times * ten).find(|&round| value <= round).unwrap_or(value)
 }
 
 pub fn svg(all: &[Growth]) -> String {
@@ -50,7 +50,9 @@ fn panel(svg: &mut String, growth: &Growth, left: f64) {
     let most = growth.points.iter().flat_map(|point| [point.contest.proved(), point.contest.second()]).fold(0.0, f64::max);
     let right_value = growth.points.last().map_or(1, |point| point.at) as f64;
     let axes = Axes { left, right_value, top_value: round_up(most) };
-    text(svg, left + WIDTH / 2.0, 18.0, "middle", &format!("{}: microseconds over {}", growth.name, growth.over));
+    text(svg, left + WIDTH / 2.0, 18.0, "middle", growth.name);
+    text(svg, left - 6.0, TOP - 12.0, "end", "µs");
+    text(svg, left + WIDTH / 2.0, TOP + HEIGHT + 38.0, "middle", growth.over);
     frame(svg, &axes);
     line(
         svg,
