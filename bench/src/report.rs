@@ -22,7 +22,9 @@ fn calls(out: &mut String, rows: &[Row]) {
     out.push_str("| call | proved / second | proved / plain | proved, µs | second, µs | plain, µs | stack proved, bytes | stack second, bytes |\n");
     out.push_str("|---|---:|---:|---:|---:|---:|---:|---:|\n");
     for row in rows {
-        let Row { contest, stacks: (proved_stack, second_stack) } = row;
+        let Row { contest, stacks } = row;
+        let [proved_stack, second_stack] =
+            stacks.map_or([String::new(), String::new()], |(proved, second)| [proved, second].map(|bytes| bytes.to_string()));
         let (name, proved, second) = (&contest.name, contest.proved(), contest.second());
         let to_plain = contest.plain().map_or(String::new(), |plain| format!("{:.2}", proved / plain));
         let plain = contest.plain().map_or(String::new(), micros);
@@ -50,7 +52,7 @@ fn goals(out: &mut String, rows: &[Row], growths: &[Growth]) {
     let steps: Vec<f64> = rows.iter().filter_map(|row| Some(row.contest.proved() / row.contest.plain()?)).collect();
     let steps = most(&steps);
     goal("a step at n = 16 within 3 times the plain loop", format!("{steps:.2} times"), steps <= PLAIN_MOST);
-    let stack = rows.iter().map(|row| row.stacks.0).max().unwrap_or(0);
+    let stack = rows.iter().filter_map(|row| row.stacks).map(|(proved, _)| proved).max().unwrap_or(0);
     goal("each call within 64 KiB of stack", format!("{stack} bytes"), stack <= STACK_MOST);
     if let Some(close) = growths.iter().find(|growth| growth.name == "close") {
         let doubled = doubled(close);

@@ -6,8 +6,8 @@ use raudokiin::{LOG_MOST, NODES_MOST};
 
 pub struct Row {
     pub contest: Contest,
-    /// Bytes of stack, of the proved program and of the second one.
-    pub stacks: (usize, usize),
+    /// Bytes of stack, of the proved program and of the second one; none for what is not one call.
+    pub stacks: Option<(usize, usize)>,
 }
 
 const SILENCE: [u8; 2 * NODES_MOST] = [0; 2 * NODES_MOST];
@@ -19,7 +19,7 @@ fn full_step(says: Says, name: &str) -> Contest {
 }
 
 pub fn all() -> Vec<Row> {
-    let contests = [
+    let calls = [
         wire::read_record(),
         wire::write_record(),
         wire::read_message(),
@@ -33,8 +33,9 @@ pub fn all() -> Vec<Row> {
         log::bar(log_of(16), "bar over 4,096 entries, of which 16 count"),
         log::bar(log_of_one_meter(LOG_MOST), "bar over 4,096 entries, which all count"),
         log::signers(),
-        hall::hall(0, "a hall of 16, f = 7, all correct"),
-        hall::hall(7, "a hall of 16, f = 7, 7 faulty"),
     ];
-    contests.map(|mut contest| Row { stacks: contest.stacks(), contest }).into()
+    let halls = [hall::hall(0, "a hall of 16, f = 7, all correct"), hall::hall(7, "a hall of 16, f = 7, 7 faulty")];
+    let mut rows: Vec<Row> = calls.into_iter().map(|mut contest| Row { stacks: Some(contest.stacks()), contest }).collect();
+    rows.extend(halls.map(|contest| Row { stacks: None, contest }));
+    rows
 }

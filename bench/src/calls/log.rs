@@ -18,7 +18,8 @@ pub fn close(intervals: usize, name: &str) -> Contest {
     Contest::new(
         name,
         move || {
-            black_box(calls::close(*black_box(&node), black_box(old), black_box(output)));
+            let (node, old, output) = black_box((&node, old, &mut *output));
+            black_box(calls::close(*node, old, output));
         },
         move || {
             black_box(seconds::close(black_box(&raw), black_box(old), black_box(seconds_output)));

@@ -46,7 +46,8 @@ pub fn open() -> Contest {
     Contest::new(
         "open with 16 entries, n = 16",
         move || {
-            black_box(calls::open(*black_box(&node), *black_box(&tray), black_box(outbox)));
+            let (node, tray, outbox) = black_box((&node, &tray, &mut *outbox));
+            black_box(&calls::open(*node, *tray, outbox));
         },
         move || {
             let mut after = *black_box(&raw);
@@ -69,7 +70,8 @@ pub fn step(n: usize, inbox: &'static [u8], name: &str) -> Contest {
     Contest::new(
         name,
         move || {
-            black_box(calls::step(*black_box(&node), black_box(inbox), black_box(outbox)));
+            let (node, inbox, outbox) = black_box((&node, inbox, &mut *outbox));
+            black_box(&calls::step(*node, inbox, outbox));
         },
         move || {
             let mut after = *black_box(&raw);
