@@ -17,6 +17,11 @@ pub fn batch_of(primary: usize, which: usize) -> [u64; BATCH_MOST] {
     std::array::from_fn(|i| reading(BATCH_MOST * primary + i, NOW + which))
 }
 
+/// The readings of now where a node's meters do not stand together: those of every other node lie between them.
+pub fn spread_batch_of(primary: usize) -> [u64; BATCH_MOST] {
+    std::array::from_fn(|i| reading(NODES_MOST * i + primary, NOW))
+}
+
 /// A log with the readings of every meter in so many intervals.
 pub fn log_of(intervals: usize) -> Vec<u64> {
     (0..METERS).flat_map(|meter| (0..intervals).map(move |interval| reading(meter, interval))).collect()
@@ -84,16 +89,16 @@ pub fn full_inbox(n: usize, me: usize, says: Says) -> Vec<u8> {
 }
 
 /// The last of n nodes after its opening; as many may be faulty as the sizes allow.
-pub fn opened(n: usize) -> Node {
+pub fn opened(n: usize, batch: [u64; BATCH_MOST]) -> Node {
     let mut node = Node::new(n, (n - 1) / 2, n - 1).unwrap();
-    node.open(&tray_of(&batch_of(n - 1, 0)), &mut [0; RECORD_MOST]).unwrap();
+    node.open(&tray_of(&batch), &mut [0; RECORD_MOST]).unwrap();
     node
 }
 
-/// The last of sixteen nodes after its rounds: it decided sixteen entries for each.
-pub fn decided() -> Node {
-    let mut node = opened(NODES_MOST);
-    let openings: Vec<Vec<u8>> = (0..NODES_MOST).map(|primary| record_of(NODES_MOST, primary, 1 << primary, &batch_of(primary, 0))).collect();
+/// The last of sixteen nodes after its rounds: it decided these batches.
+pub fn decided(batch: impl Fn(usize) -> [u64; BATCH_MOST]) -> Node {
+    let mut node = opened(NODES_MOST, batch(NODES_MOST - 1));
+    let openings: Vec<Vec<u8>> = (0..NODES_MOST).map(|primary| record_of(NODES_MOST, primary, 1 << primary, &batch(primary))).collect();
     let mut inbox = inbox_of(openings.iter().map(Vec::as_slice));
     for _ in 0..8 {
         node.step(&inbox, &mut [0; MESSAGE_MOST]).unwrap();

@@ -1,7 +1,7 @@
 //! The rows of the table.
 use crate::calls::{for_good, hall, log, node, wire};
 use crate::contest::Contest;
-use crate::inputs::{full_inbox, log_of, log_of_one_meter, Says};
+use crate::inputs::{batch_of, decided, full_inbox, log_of, log_of_one_meter, spread_batch_of, Says};
 use raudokiin::{LOG_MOST, NODES_MOST};
 
 pub struct Row {
@@ -28,8 +28,9 @@ pub fn all() -> Vec<Row> {
         full_step(Says::Two, "step, n = 16, 15 messages of 3,960 bytes: two batches of each primary"),
         full_step(Says::OneTwice, "step, n = 16, 15 messages of 3,960 bytes: one batch of each primary, twice"),
         node::step(NODES_MOST, &SILENCE, "step, n = 16, everyone silent"),
-        log::close(16, "close, 3,840 old and 256 decided: 4,096"),
-        log::close(1, "close, none old and 256 decided: 256"),
+        log::close(16, decided(|primary| batch_of(primary, 0)), "close, 3,840 old and 256 decided: 4,096"),
+        log::close(1, decided(|primary| batch_of(primary, 0)), "close, none old and 256 decided: 256"),
+        log::close(1, decided(spread_batch_of), "close, none old and 256 decided: 256, the nodes' meters spread"),
         log::bar(log_of(16), "bar over 4,096 entries, of which 16 count"),
         log::bar(log_of_one_meter(LOG_MOST), "bar over 4,096 entries, which all count"),
         log::signers(),

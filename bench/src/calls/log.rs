@@ -1,14 +1,14 @@
 //! A close, a bar, the signers.
 use super::for_good;
 use crate::contest::Contest;
-use crate::inputs::{decided, log_of, raw_of, METERS};
-use raudokiin::{calls, MARK_SIZE, NODES_MOST};
+use crate::inputs::{log_of, raw_of, METERS};
+use raudokiin::{calls, Node, MARK_SIZE, NODES_MOST};
 use second::calls as seconds;
 use std::hint::black_box;
 
 /// The new log has so many intervals of 256 entries, of which the last one is decided.
-pub fn close(intervals: usize, name: &str) -> Contest {
-    let (node, old) = (decided(), for_good(log_of(intervals - 1)) as &[u64]);
+pub fn close(intervals: usize, node: Node, name: &str) -> Contest {
+    let old: &[u64] = for_good(log_of(intervals - 1));
     let raw = raw_of(&node);
     let [output, seconds_output] = [(); 2].map(|()| for_good(vec![0u64; intervals * METERS]));
     let closed = calls::close(node, old, output);

@@ -59,7 +59,7 @@ pub fn open() -> Contest {
 
 /// Round 1 of the last of n nodes.
 pub fn step(n: usize, inbox: &'static [u8], name: &str) -> Contest {
-    let node = opened(n);
+    let node = opened(n, batch_of(n - 1, 0));
     let raw = raw_of(&node);
     let [outbox, seconds_outbox] = [[0u8; MESSAGE_MOST]; 2].map(for_good);
     let stepped = calls::step(node, inbox, outbox);
@@ -83,7 +83,7 @@ pub fn step(n: usize, inbox: &'static [u8], name: &str) -> Contest {
 
 /// The same by the plain loop.
 pub fn plain_step(n: usize, inbox: &'static [u8]) -> impl FnMut() + Send {
-    let node = opened(n);
+    let node = opened(n, batch_of(n - 1, 0));
     let state = plain_of(&node);
     let [outbox, plain_outbox] = [[0u8; MESSAGE_MOST]; 2].map(for_good);
     let stepped = calls::step(node, inbox, outbox);
