@@ -1,31 +1,56 @@
-//! Stack high-water of a call: the stack below it is painted, the call runs, and the deepest byte that is no longer paint tells how far it came.
-use std::arch::asm;
-use std::ptr::read_volatile;
+//! How much stack a call uses, by a painted stack: on a thread of its own the free part of the stack is filled with a pattern, the call is run, and the
+//! lowest byte that no longer holds the pattern tells how far down it wrote. A turn that does nothing is measured the same way and taken off, so that what is
+//! left is the call's own, its arguments and its answer included.
+use crate::timing::{turns, Turns};
+use std::hint::black_box;
 use std::thread;
 
-const PAINTED: usize = 256 * 1024;
-const PAINT: u8 = 0xa5;
-/// What may stand just below the stack pointer is left alone.
-const LEFT: usize = 256;
+const STACK: usize = 1 << 20;
+/// What is painted, from a little below the painting function's own frame downwards. The thread's stack ends well below it.
+const PAINTED: usize = STACK / 2;
+const MARGIN: usize = 1024;
+const PATTERN: u8 = 0xa5;
 
-/// Bytes of stack that a call takes, with its caller's copies of what is handed over, on a thread of its own.
-pub fn high_water(call: impl FnOnce() + Send) -> usize {
+/// Paints below its own frame and answers the lowest place painted. The memory is the thread's own stack: mapped, and used by nobody until a call
+/// comes down to it.
+#[inline(never)]
+fn paint() -> usize {
+    let here = 0u8;
+    let lowest = black_box(&here) as *const u8 as usize - MARGIN - PAINTED;
+    for place in 0..PAINTED {
+        unsafe { ((lowest + place) as *mut u8).write_volatile(PATTERN) };
+    }
+    lowest
+}
+
+/// How many of the painted bytes, from the lowest on, still hold the pattern.
+#[inline(never)]
+fn untouched(lowest: usize) -> usize {
+    (0..PAINTED).take_while(|place| unsafe { ((lowest + place) as *const u8).read_volatile() } == PATTERN).count()
+}
+
+/// A turn from a frame that reaches below the painting function's margin, so that all of the turn falls on painted bytes.
+#[inline(never)]
+fn turn_below(turns: &mut Turns) {
+    let space = [0u8; 2 * MARGIN];
+    black_box(&space);
+    turns(1);
+    black_box(&space);
+}
+
+fn touched(turns: &mut Turns) -> usize {
     thread::scope(|scope| {
-        let own = thread::Builder::new().stack_size(2 * PAINTED).spawn_scoped(scope, || deepest(call));
-        own.expect("a thread").join().expect("a call that ends")
+        let measure = || {
+            let lowest = paint();
+            turn_below(turns);
+            PAINTED - untouched(lowest)
+        };
+        let thread = thread::Builder::new().stack_size(STACK).spawn_scoped(scope, measure).expect("a thread");
+        thread.join().expect("a turn that ends")
     })
 }
 
-#[inline(never)]
-fn deepest(call: impl FnOnce()) -> usize {
-    let top: usize;
-    // SAFETY: the stack pointer is read.
-    unsafe { asm!("mov {}, rsp", out(reg) top, options(nomem, nostack, preserves_flags)) };
-    let bottom = top - PAINTED;
-    // SAFETY: the bytes are below the stack pointer, so nobody's, and within the thread's stack of twice as many.
-    unsafe { asm!("rep stosb", inout("rdi") bottom => _, inout("rcx") PAINTED - LEFT => _, in("al") PAINT, options(nostack, preserves_flags)) };
-    call();
-    // SAFETY: as above.
-    let touched = (0..PAINTED - LEFT).find(|&i| unsafe { read_volatile((bottom + i) as *const u8) } != PAINT);
-    PAINTED - touched.unwrap_or(PAINTED - LEFT)
+/// Bytes of stack that one turn uses.
+pub fn high_water(of: &mut Turns) -> usize {
+    touched(of).saturating_sub(touched(&mut turns(|| {})))
 }
