@@ -18,11 +18,12 @@ use Rattle.schedule.specs.declared.Headed.{Headed}
 use Rattle.schedule.specs.declared.Headed.the-variants.{Read, BadAt}
 use Rattle.schedule.specs.declared.Sending.{Sending}
 
--- the header; that of nobody where a header line is bad
+-- the header that was read; one of zeros where a header line is bad
 unfoldable pub headerAs : Headed → Header
 headerAs (Read h) = h
 headerAs (BadAt k) = noHeader
 
+-- that of a schedule
 abbrev pub headerOf : List ℕ → Header
 headerOf s = headerAs (headedOf (linesOf s))
 
@@ -31,6 +32,7 @@ unfoldable pub itemsIn : Option (List ℕ) → List ℕ
 itemsIn none = []
 itemsIn (some xs) = xs
 
+-- the key is `faulty`
 unfoldable pub isFaultyKey : Key → Bool
 isFaultyKey Faulty = true
 isFaultyKey Nodes = false
@@ -41,11 +43,12 @@ unfoldable pub faultyLine : List Key → List (List ℕ) → List ℕ
 faultyLine [] ls = []
 faultyLine (key ∷ keys) ls = cond (isFaultyKey key) (getD ls 0 []) (faultyLine keys (drop 1 ls))
 
--- the faulty nodes
+-- the nodes in that line; nobody where a header line is bad
 unfoldable pub faultyIn : Headed → List (List ℕ) → List ℕ
 faultyIn (BadAt k) ls = []
 faultyIn (Read h) ls = itemsIn (listLine faultyKey (Below (h .n)) (faultyLine headerKeys ls))
 
+-- the faulty nodes of a schedule
 abbrev pub faultyOf : List ℕ → List ℕ
 faultyOf s = faultyIn (headedOf (linesOf s)) (linesOf s)
 
@@ -90,5 +93,6 @@ unfoldable pub messageIn : (r from to : ℕ) → List Send → List ℕ
 messageIn r from to [] = []
 messageIn r from to (x ∷ xs) = cond (numbered r from to (x .round) (x .from) (x .to)) (x .message) (messageIn r from to xs)
 
+-- in a schedule: of round r, from one node to another
 abbrev pub messageFor : List ℕ → (r from to : ℕ) → List ℕ
 messageFor s r from to = messageIn r from to (sendsOf s)

@@ -57,6 +57,7 @@ withLine Nodes k h l = withNodes k h (numberLine nodesKey wordMost l)
 withLine Faults k h l = withFaults k h (numberLine faultsKey wordMost l)
 withLine Faulty k h l = withFaulty k h (listLine faultyKey (Below (h .n)) l)
 
+-- a bad line ends the reading
 unfoldable pub andThen : Headed → (Header → Headed) → Headed
 andThen (Read h) rest = rest h
 andThen (BadAt k) rest = BadAt k

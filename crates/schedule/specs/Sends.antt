@@ -20,6 +20,7 @@ use Rattle.schedule.specs.declared.Header.{Header}
 use Rattle.schedule.specs.declared.Sending.{Sending}
 use Rattle.schedule.specs.declared.Sending.the-variants.{Sent, NoSend}
 
+-- a send, its message in bytes
 pub record Send : Type 0 where
   pub round : ℕ
   pub from : ℕ
@@ -30,6 +31,7 @@ pub record Send : Type 0 where
 abbrev pub messageText : List ℕ → List ℕ
 messageText v = past comma (past comma (past comma v))
 
+-- three numbers and the text of a message; none where a number is bad
 unfoldable pub sendAs : Number → Number → Number → List ℕ → Option Send
 sendAs (Value r) (Value i) (Value j) m = some (record { round = r; from = i; to = j; message = hexOf m })
 sendAs (Value r) (Value i) NoNumber m = none
@@ -59,6 +61,7 @@ unfoldable pub fitting : Header → (round from to size : ℕ) → Bool
 fitting h round from to size =
     leb 1 round && (leb round (h .f + 1) && (faultyBit h from && (ltb to (h .n) && (not (faultyBit h to) && (leb 1 size && leb size messageMost)))))
 
+-- a send that may stand in a schedule with this header
 abbrev pub fits : Header → Send → Bool
 fits h x = fitting h (x .round) (x .from) (x .to) (length (x .message))
 

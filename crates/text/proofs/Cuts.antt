@@ -1,7 +1,8 @@
 -- Lines: a text is its first line and the lines of the rest.
 use Prim.Native.Nat.{_+_, _-_, _<_, _≤_, suc, ℕ}
 use mathlib.Core.Bool.{Bool, cond, false, true}
-use mathlib.Core.List.{List, [], _∷_}
+use mathlib.Core.List.{List, [], _++_, _∷_}
+use mathlib.Core.Option.{some}
 use mathlib.Core.Path.{_∙_, _≡_, ap, ap₂, refl, sym}
 use native.Mathlib.Omega.{arith}
 use borrow.Author.Tests.{le-ltb, lt-ltb, ltb-true}
@@ -143,3 +144,26 @@ module _ (s line : List ℕ) (at : ℕ) (within : at ≤ length s) (e : line ≡
       let f = line-fits in
       let some : 0 < length (drop (at + length line) s) = omega (arith, l, f, length-drop at s, length-drop (at + length line) s) in
       omega (arith, z, ap length (lines-more (drop (at + length line) s) some))
+
+-- ---- a text is its lines put together, so that its lines determine it
+
+whole : List (List ℕ) → List ℕ
+whole [] = []
+whole (l ∷ ls) = l ++ whole ls
+
+whole-ahead : (b : ℕ) (ls : List (List ℕ)) → whole (ahead b ls) ≡ b ∷ whole ls
+unfolding whole ahead
+whole-ahead b [] = refl
+whole-ahead b (l ∷ ls) = refl
+
+lines-whole : (s : List ℕ) → whole (linesOf s) ≡ s
+unfolding whole linesOf
+lines-whole [] = refl
+lines-whole (b ∷ s) = go (eqb b lf) (lines-whole s)
+  where
+    go : (t : Bool) → whole (linesOf s) ≡ s → whole (cond t ((b ∷ []) ∷ linesOf s) (ahead b (linesOf s))) ≡ b ∷ s
+    go true h = ap (λ (l : List ℕ). b ∷ l) h
+    go false h = whole-ahead b (linesOf s) ∙ ap (λ (l : List ℕ). b ∷ l) h
+
+pub lines-determine : (s t : List ℕ) → linesOf s ≡ linesOf t → s ≡ t
+lines-determine s t e = sym (lines-whole s) ∙ ap whole e ∙ lines-whole t

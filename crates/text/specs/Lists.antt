@@ -34,6 +34,7 @@ unfoldable pub itemOf : Kind → List ℕ → Number
 itemOf (Below n) s = belowAs n (numberOf wordMost s)
 itemOf Entry s = entryIn s
 
+-- an item before those that follow; none where it or one of those is bad
 unfoldable pub andItem : Number → Option (List ℕ) → Option (List ℕ)
 andItem NoNumber xs = none
 andItem (Value x) none = none

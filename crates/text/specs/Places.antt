@@ -1,10 +1,11 @@
 -- "lines of key=value ended by LF"; "by commas"; "as meter.interval.watthours": a text is cut at these bytes.
-use Prim.Native.Nat.{ℕ, zero, suc, _+_}
+use Prim.Native.Nat.{ℕ, suc, _+_}
 use mathlib.Core.Bool.{cond}
 use mathlib.Core.List.{List, [], _∷_}
 use lib.Dec.{eqb}
 use lib.ListN.{take, drop}
 
+-- the byte that ends a line, the one between items, the one between the numbers of an entry
 abbrev pub lf : ℕ
 lf = 10
 

@@ -97,7 +97,7 @@ returns : tie.Need-returns Inv-loop μ-loop
 returns c =
     let a = c .before .before .before .before .args in
     let l = c .before .loop in
-    let e = more-whole (a .kind) (now (a .xs)) (l .i) (c .loop-test .left) in
+    let e = more-whole (a .kind) (now (a .xs)) (l .i) (omega arith) in
     (l .inv .2 ∙ ap length e, l .inv .4 ∙ ap (λ (w : List ℕ). onto w (now (a .output))) e)
 
 pub all-more-spec : {M : Type 1} → statement M

@@ -60,7 +60,7 @@ returns-2 : tie.Need-returns-2 Inv-loop μ-loop
 returns-2 c =
     let a = c .before .before .before .args in
     let l = c .before .loop in
-    let e = ap length (more-whole (a .kind) (now (a .xs)) (l .i) (c .loop-test .left)) in
+    let e = ap length (more-whole (a .kind) (now (a .xs)) (l .i) (omega arith)) in
     sym (le-leb (length (moreText (a .kind) (now (a .xs)))) (a .room) (omega (arith, l .inv .1, e)))
 
 pub more-fits-spec : {M : Type 1} → statement M
