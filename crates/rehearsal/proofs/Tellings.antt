@@ -6,8 +6,8 @@ use mathlib.Core.List.{List}
 use native.Mathlib.Nat.{le-trans}
 use native.Mathlib.Numerals.{add-one}
 use native.Mathlib.Omega.{arith}
-use borrow.Author.Tests.{lt-leb, le-leb, lt-ltb, eq-eqb}
-use lib.Dec.{eqb, ltb}
+use borrow.Author.Tests.{lt-leb, le-leb, leb-true, lt-ltb, eq-eqb}
+use lib.Dec.{eqb, leb, ltb}
 use lib.ListN.{length, take, drop}
 use lib.Seq.{take-append-seam}
 use Rattle.laws.specs.Masks.{bit, asBit, maskOf}
@@ -33,6 +33,7 @@ use Rattle.report.proofs.Printing.{put-writes, writes-as}
 use Rattle.print.proofs.Lengths.{decimal-bound, line-length}
 use Rattle.report.proofs.Alike.{same-nodes}
 use Rattle.rehearsal.specs.Rehearsal.{badKey, badText, playedText, formText, rehearsalOf, Rehearse}
+use Rattle.rehearsal.specs.declared.Rehearsed.{Rehearsed}
 use Rattle.rehearsal.specs.Telling.{Tells}
 
 -- ---- a bad line
@@ -154,3 +155,11 @@ module _ (s blank text output : List ℕ) (size : ℕ) (told : Tells (rehearsalO
       let e = le-leb (length (rehearsalOf s)) (length output) (omega (arith, size-is)) in
       let q : Put (rehearsalOf s) output k after = subst (λ (w : List ℕ). Put w output k after) text-is p in
       record { number = simp e; size = q .answers ∙ simp e; output-is = q .leaves ∙ simp e }
+
+-- no more is told than there is room for
+pub told-within : (s output : List ℕ) (answer : Rehearsed) (after : List ℕ) → Rehearse s output answer after → answer .length ≤ length output
+told-within s output answer after p = go (leb (length (rehearsalOf s)) (length output)) refl
+  where
+    go : (b : Bool) → leb (length (rehearsalOf s)) (length output) ≡ b → answer .length ≤ length output
+    go true e = let q : answer .length ≡ length (rehearsalOf s) = p .size ∙ simp e in omega (arith, leb-true (length (rehearsalOf s)) (length output) e)
+    go false e = let q : answer .length ≡ 0 = p .size ∙ simp e in omega arith
