@@ -15,7 +15,7 @@ use Rattle.signing.specs.Slots.{slotSize}
 use Rattle.report.specs.Logs.{logOf}
 use Rattle.report.specs.Marks.{markWith, markAt}
 use Rattle.report.specs.Spoken.{slotsWith, slotsAt}
-use Rattle.report.specs.Signing.{hasBit, nodesThat, countedWith, signersAt}
+use Rattle.report.specs.Signing.{hasBit, nodesThat, countedWith, signersBy, signersAt}
 use Rattle.report.specs.Lines.{linesText, sizesLines, allLines, reportLines}
 use Rattle.report.specs.Report.{nodeAt, Writes, Reports}
 use Rattle.report.specs.Held.{heldAt, logIn, AllHeld, AllEntries, Numbered}
@@ -51,15 +51,15 @@ module _ (n f : ℕ) (t : ℕ → Bool) (log : ℕ → List ℕ) (held : List He
   its-slots : slots ≡ slotsAt t log n
   its-slots = s ∙ slots-same n t t (λ k m. refl) (λ j. markWith (getD (x .of) j 0)) (markAt t log n) its-mark
 
-  its-signers : (i : ℕ) → i < n → t i ≡ false → nodesThat (hasBit (countedWith n f i (markWith (getD (x .of) i 0)) slots)) n ≡ signersAt n f t log i
+  its-signers : (i : ℕ) → i < n → t i ≡ false → signersBy n f i (getD (x .of) i 0) slots ≡ signersAt n f t log i
   its-signers i l e = ap₂ (λ (m : Mark) (z : List ℕ). nodesThat (hasBit (countedWith n f i m z)) n) (its-mark i l e) its-slots
 
   pub whole-text : linesText (sizesLines n f)
-      ++ linesText (allLines t (λ i. logIn (heldAt held i)) (λ i. nodesThat (hasBit (countedWith n f i (markWith (getD (x .of) i 0)) slots)) n) n)
+      ++ linesText (allLines t (λ i. logIn (heldAt held i)) (λ i. signersBy n f i (getD (x .of) i 0) slots) n)
       ≡ linesText (reportLines n f t log)
   whole-text =
       ap (λ ls. linesText (sizesLines n f) ++ linesText ls)
-      (lines-same n t t (λ k m. refl) (λ i. logIn (heldAt held i)) log (λ i. nodesThat (hasBit (countedWith n f i (markWith (getD (x .of) i 0)) slots)) n) (signersAt n f t log) its-log its-signers)
+      (lines-same n t t (λ k m. refl) (λ i. logIn (heldAt held i)) log (λ i. signersBy n f i (getD (x .of) i 0) slots) (signersAt n f t log) its-log its-signers)
       ∙ sym (lines-append (sizesLines n f) (allLines t log (signersAt n f t log) n))
 
 -- the slots that were written are the first bytes of the places

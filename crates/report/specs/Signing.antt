@@ -9,7 +9,7 @@ use Rattle.rules.specs.Signers.{Mark, signersOf}
 use Rattle.rules.specs.Step.{gather}
 use Rattle.signing.specs.Slots.{slotOf}
 use Rattle.signing.specs.Count.{signersNumber}
-use Rattle.report.specs.Marks.{markAt}
+use Rattle.report.specs.Marks.{markWith, numberAt}
 use Rattle.report.specs.Spoken.{slotsAt}
 
 -- node j's bit is set
@@ -24,6 +24,10 @@ nodesThat t n = gather (λ (j : ℕ). cond (t j) (j ∷ []) []) n
 abbrev pub countedWith : (n f i : ℕ) (mark : Mark) (slots : List ℕ) → ℕ
 countedWith n f i mark slots = ifDone (signersNumber n f i mark slots) (signersOf n i mark (slotOf slots)) 0
 
+-- the signers that node i counts in these slots, by the number of its log
+abbrev pub signersBy : (n f i number : ℕ) (slots : List ℕ) → List ℕ
+signersBy n f i number slots = nodesThat (hasBit (countedWith n f i (markWith number) slots)) n
+
 -- the signers of node i's log, as that node counts them
 abbrev pub signersAt : (n f : ℕ) (faulty : ℕ → Bool) (log : ℕ → List ℕ) (i : ℕ) → List ℕ
-signersAt n f faulty log i = nodesThat (hasBit (countedWith n f i (markAt faulty log n i) (slotsAt faulty log n))) n
+signersAt n f faulty log i = signersBy n f i (numberAt faulty log n i) (slotsAt faulty log n)

@@ -8,8 +8,7 @@ ghost use Rattle.rules.specs.Sizes.{nodesMost};
 ghost use Rattle.entries.specs.Bytes.{AreEntries};
 ghost use Rattle.print.specs.Texts.{lineText, listText};
 ghost use Rattle.print.specs.declared.Items.the-variants.{Entries, Nodes};
-ghost use Rattle.report.specs.Marks.{markWith};
-ghost use Rattle.report.specs.Signing.{countedWith, hasBit, nodesThat};
+ghost use Rattle.report.specs.Signing.{hasBit, nodesThat, signersBy};
 ghost use Rattle.report.specs.Lines.{allLines, linesText, logKey, nodeLines, signersKey, sizesLines};
 ghost use Rattle.report.specs.Report.{Writes};
 ghost use Rattle.report.specs.Held.{AllEntries, AllFit, Fits, heldAt, logIn};
@@ -72,7 +71,7 @@ fn put_correct(
     slots: &[u8],
 ) -> usize
     requires { ⌜ (n ≤ nodesMost) × (i < n) × (hasBit faulty i ≡ false → Fits log) ⌝ }
-    ensures { λ r. ⌜ Writes (linesText (cond (hasBit faulty i) [] (nodeLines i (logIn log) (nodesThat (hasBit (countedWith n f i (markWith number) (now (slots .entry)))) n)))) (now (text .entry)) r (now (text .exit)) × (hasBit faulty i ≡ false → AreEntries (logIn log)) ⌝ }
+    ensures { λ r. ⌜ Writes (linesText (cond (hasBit faulty i) [] (nodeLines i (logIn log) (signersBy n f i number (now (slots .entry)))))) (now (text .entry)) r (now (text .exit)) × (hasBit faulty i ≡ false → AreEntries (logIn log)) ⌝ }
 {
     if has_bit(faulty, i) {
         return 0;
@@ -92,7 +91,7 @@ pub(crate) fn put_nodes(
     slots: &[u8],
 ) -> usize
     requires { ⌜ (n ≤ nodesMost) × AllFit (hasBit faulty) n logs ⌝ }
-    ensures { λ r. ⌜ Writes (linesText (allLines (hasBit faulty) (λ i. logIn (heldAt logs i)) (λ i. nodesThat (hasBit (countedWith n f i (markWith (getD numbers i 0)) (now (slots .entry)))) n) n)) (now (text .entry)) r (now (text .exit)) × AllEntries (hasBit faulty) (λ i. logIn (heldAt logs i)) n ⌝ }
+    ensures { λ r. ⌜ Writes (linesText (allLines (hasBit faulty) (λ i. logIn (heldAt logs i)) (λ i. signersBy n f i (getD numbers i 0) (now (slots .entry))) n)) (now (text .entry)) r (now (text .exit)) × AllEntries (hasBit faulty) (λ i. logIn (heldAt logs i)) n ⌝ }
 {
     let mut at = 0;
     let mut i = 0;

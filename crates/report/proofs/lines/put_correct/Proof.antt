@@ -2,8 +2,7 @@
 use mathlib.Core.Path.{sym, _∙_}
 use denote.Ref.{now}
 use Rattle.laws.proofs.Tests.{clash}
-use Rattle.report.specs.Marks.{markWith}
-use Rattle.report.specs.Signing.{hasBit, nodesThat, countedWith}
+use Rattle.report.specs.Signing.{signersBy}
 use Rattle.report.specs.Lines.{nodeLines}
 use Rattle.report.specs.Held.{logIn}
 use Rattle.report.proofs.Printing.{writes-as, writes-none, faulty-prints-none, correct-prints}
@@ -18,7 +17,7 @@ returns : tie.Need-returns
 returns c =
     let a = c .before .before .before .before .args in
     let faulty = sym (c .before .has-bit .ensures) ∙ c .if1 .taken in
-    (writes-as _ _ _ _ _ (faulty-prints-none (a .faulty) (a .i) (nodeLines (a .i) (logIn (a .log)) (nodesThat (hasBit (countedWith (a .n) (a .f) (a .i) (markWith (a .number)) (now (a .slots)))) (a .n))) faulty) (writes-none (now (a .text))), λ f. absurd (clash faulty f))
+    (writes-as _ _ _ _ _ (faulty-prints-none (a .faulty) (a .i) (nodeLines (a .i) (logIn (a .log)) (signersBy (a .n) (a .f) (a .i) (a .number) (now (a .slots)))) faulty) (writes-none (now (a .text))), λ f. absurd (clash faulty f))
 
 counted-requires : tie.Need-counted-requires
 counted-requires c κs = search needs

@@ -1,13 +1,11 @@
 -- Before turn i the lines of the correct nodes below i stand over the front; those of the next come after them.
-use Prim.Native.Nat.{ℕ, _-_, _≤_}
-use mathlib.Core.List.{List}
+use Prim.Native.Nat.{_-_, _≤_}
 use mathlib.Core.Path.{_≡_, refl, sym, ap, subst}
 use native.Mathlib.Nat.{not-suc-le-zero}
 use native.Mathlib.Omega.{arith}
 use denote.Ref.{now}
 use lib.ListN.{length, getD}
-use Rattle.report.specs.Marks.{markWith}
-use Rattle.report.specs.Signing.{hasBit, nodesThat, countedWith}
+use Rattle.report.specs.Signing.{hasBit, signersBy}
 use Rattle.report.specs.Lines.{allLines, linesText}
 use Rattle.report.specs.Report.{Writes}
 use Rattle.report.specs.Held.{AllEntries, heldAt, logIn}
@@ -17,13 +15,9 @@ use borrow.Author.Needs.{needs}
 use Rattle.report.proofs.lines.put_nodes.Statement.{statement}
 use Rattle.report.proofs.lines.put_nodes.Tie as tie
 
--- the signers that are printed of node i
-abbrev signersBy : (n f : ℕ) (numbers slots : List ℕ) (i : ℕ) → List ℕ
-signersBy n f numbers slots i = nodesThat (hasBit (countedWith n f i (markWith (getD numbers i 0)) slots)) n
-
 abbrev Inv-loop : tie.InvT-loop
 Inv-loop text₀ n f faulty slots logs numbers at₀ i₀ text at i =
-    (i ≤ n) × (length text ≡ length text₀) × Writes (linesText (allLines (hasBit faulty) (λ j. logIn (heldAt logs j)) (signersBy n f numbers slots) i)) text₀ at text
+    (i ≤ n) × (length text ≡ length text₀) × Writes (linesText (allLines (hasBit faulty) (λ j. logIn (heldAt logs j)) (λ j. signersBy n f j (getD numbers j 0) slots) i)) text₀ at text
     × AllEntries (hasBit faulty) (λ j. logIn (heldAt logs j)) i
 
 abbrev μ-loop : tie.MeasureT-loop
@@ -32,7 +26,7 @@ abbrev μ-loop : tie.MeasureT-loop
 loop-holds : tie.Need-loop-holds Inv-loop μ-loop
 loop-holds c =
     let a = c .before .before .args in
-    (omega arith, refl, writes-as _ _ _ _ _ (sym (no-nodes (hasBit (a .faulty)) (λ j. logIn (heldAt (a .t5) j)) (signersBy (a .n) (a .f) (a .t6) (now (a .slots))))) (writes-none (now (a .text))), λ j l. absurd (not-suc-le-zero l))
+    (omega arith, refl, writes-as _ _ _ _ _ (sym (no-nodes (hasBit (a .faulty)) (λ j. logIn (heldAt (a .t5) j)) (λ j. signersBy (a .n) (a .f) j (getD (a .t6) j 0) (now (a .slots))))) (writes-none (now (a .text))), λ j l. absurd (not-suc-le-zero l))
 
 sub-put-correct : tie.Need-sub-put-correct Inv-loop μ-loop
 sub-put-correct c =
@@ -78,7 +72,7 @@ loop-again c =
     let d = c .before .before .put-correct in (
       omega arith,
       search needs,
-      writes-as _ _ _ _ _ (node-after (hasBit (a .faulty)) (λ j. logIn (heldAt (a .t5) j)) (signersBy (a .n) (a .f) (a .t6) (now (a .slots))) (l .i))
+      writes-as _ _ _ _ _ (node-after (hasBit (a .faulty)) (λ j. logIn (heldAt (a .t5) j)) (λ j. signersBy (a .n) (a .f) j (getD (a .t6) j 0) (now (a .slots))) (l .i))
           (writes-both _ _ _ (l .at) (l .text) (l .inv .2) (l .inv .1) (d .result) _ (d .ensures .0)),
       one-more-entries (hasBit (a .faulty)) (λ j. logIn (heldAt (a .t5) j)) (l .i) (l .inv .3) (d .ensures .1),
     )
@@ -92,7 +86,7 @@ returns c =
     let a = c .before .before .before .before .args in
     let l = c .before .loop in
     let all : l .i ≡ a .n = omega arith in (
-      writes-as _ _ _ _ _ (ap (λ i. linesText (allLines (hasBit (a .faulty)) (λ j. logIn (heldAt (a .t5) j)) (signersBy (a .n) (a .f) (a .t6) (now (a .slots))) i)) all) (l .inv .2),
+      writes-as _ _ _ _ _ (ap (λ i. linesText (allLines (hasBit (a .faulty)) (λ j. logIn (heldAt (a .t5) j)) (λ j. signersBy (a .n) (a .f) j (getD (a .t6) j 0) (now (a .slots))) i)) all) (l .inv .2),
       subst (λ i. AllEntries (hasBit (a .faulty)) (λ j. logIn (heldAt (a .t5) j)) i) all (l .inv .3),
     )
 
