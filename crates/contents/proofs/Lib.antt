@@ -5,3 +5,4 @@ pub mod Bytes
 pub mod Told
 pub mod Good
 pub mod Found
+pub mod Examples

@@ -1,2 +1,4 @@
 pub mod Printing
 pub mod Lengths
+pub mod Joined
+pub mod Back

@@ -1,3 +1,4 @@
 pub mod Heads
 pub mod Fits
 pub mod Turns
+pub mod Examples
