@@ -1,4 +1,4 @@
--- What is handed to a node in a round: "Each outbox goes whole to every other node", and a faulty node's send. "The own slot of an inbox is silence."
+-- What is handed to a node in a round: "Each outbox goes whole to every other node", a faulty node sends what the schedule says, and the own slot is silence.
 use Prim.Native.Nat.{ℕ, _≤_}
 use mathlib.Core.Bool.{cond}
 use mathlib.Core.List.{List, [], _∷_}
