@@ -2,3 +2,4 @@ pub mod Premises
 pub mod Agreed
 pub mod Tellings
 pub mod Determined
+pub mod Document
