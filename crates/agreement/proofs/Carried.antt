@@ -12,6 +12,7 @@ use lib.Dec.{eqb, leb, lit<}
 use lib.ListN.{length}
 use Rattle.laws.specs.Masks.{count}
 use Rattle.laws.specs.Members.{In}
+use Rattle.node.proofs.Sound.{sound-sizes}
 use Rattle.laws.proofs.Tests.{clash}
 use Rattle.rules.specs.Sizes.{sized, sizes, fits, isLog}
 use Rattle.rules.specs.Step.{gather}
@@ -20,7 +21,7 @@ use Rattle.rules.proofs.Gathered.{each-length, each-at}
 use Rattle.rules.proofs.Sizes.{majority}
 use Rattle.entries.specs.Bytes.{AreBytes, AreEntries}
 use Rattle.wire.specs.Sizes.{lengthSize}
-use Rattle.wire.specs.Message.{votesOf}
+use Rattle.wire.specs.Message.{votesAfter, votesOf}
 use Rattle.wire.specs.Inbox.{messageOf, wellCut, inboxBytes}
 use Rattle.roundtrip.specs.Inboxes.{Fit}
 use Rattle.roundtrip.proofs.Inboxes.{inboxes, inbox-bytes}
@@ -31,13 +32,25 @@ use Rattle.node.proofs.StaySound.{opening-size}
 use Rattle.step.specs.Course.{outbox}
 use Rattle.step.proofs.Courses.{course-sound, outbox-short, outbox-bytes, outbox-same}
 use Rattle.step.proofs.PassedVotes.{within-message}
-use Rattle.step.proofs.Steps.{numbers}
 use Rattle.agreement.specs.Hall.{Hall, nodeAfter, sends}
 use Rattle.agreement.specs.Granted.{Round, Correct, Faulty, Room, Granted}
 use Rattle.agreement.specs.Rule.{breaksRule}
 use Rattle.agreement.specs.Carried.{message, carried, roomy, handed, carriedHall}
 use Rattle.agreement.proofs.Follows.{Unhindered}
 use Rattle.agreement.proofs.Shown.{rule-kept}
+
+-- a message is bytes, and not too long for its two length bytes
+pub record Fine (m : List ℕ) : Type 0 where
+  pub short : length m < 2 ^ (8 * lengthSize)
+  pub bytes : AreBytes m
+
+-- silence is, and shows nothing
+pub silence-fine : Fine []
+silence-fine = record { short = omega arith; bytes = λ k. lit< tt }
+
+pub silence-keeps : (hall : Hall) (r : ℕ) → breaksRule hall r [] ≡ false
+unfolding breaksRule votesOf votesAfter
+silence-keeps hall r = refl
 
 module _ (n f : ℕ) (faulty : ℕ → Bool) (tray : ℕ → Tray) (given : ℕ → ℕ → ℕ → List ℕ) (old : List ℕ) where
   abbrev hall : Hall
@@ -80,28 +93,18 @@ module _ (n f : ℕ) (faulty : ℕ → Bool) (tray : ℕ → Tray) (given : ℕ 
     pub above : 2 * f < n
     pub trays : (i : ℕ) → Correct hall i → soundTray (tray i) ≡ true
     pub entries : (i : ℕ) → Correct hall i → AreEntries (entriesOf (tray i))
-    -- no message of a faulty node to a correct one is too long for its two length bytes
-    pub short : (i j r : ℕ) → Correct hall i → Faulty hall j → Round hall r → length (given r j i) < 2 ^ (8 * lengthSize)
-    pub bytes : (i j r : ℕ) → Correct hall i → Faulty hall j → Round hall r → AreBytes (given r j i)
+    pub messages : (i j r : ℕ) → Correct hall i → Faulty hall j → Round hall r → Fine (given r j i)
 
   module _ (H : Given) where
     sizes-hold : (i : ℕ) → i < n → sizes n f i ≡ true
     sizes-hold i l = majority n f i (H .nodes) (H .above) ∙ lt-ltb i n l
 
-    -- ---- each message is bytes, and short
-
-    pub record Fine (m : List ℕ) : Type 0 where
-      pub short : length m < 2 ^ (8 * lengthSize)
-      pub bytes : AreBytes m
-
     message-fine : (i j r : ℕ) → Correct hall i → j < n → Round hall r → Fine (messageTo i r j)
     message-fine i j r ci l b = go (eqb j i) refl (faulty j) refl
       where
         go : (own : Bool) → eqb j i ≡ own → (lies : Bool) → faulty j ≡ lies → Fine (messageTo i r j)
-        go true e lies q = rw e (record { short = omega arith; bytes = λ k. lit< tt })
-        go false e true q =
-            let fj : Faulty hall j = record { node = l; lies = q } in
-            rw (e, q) (record { short = H .short i j r ci fj b; bytes = H .bytes i j r ci fj b })
+        go true e lies q = rw e silence-fine
+        go false e true q = rw (e, q) (H .messages i j r ci (record { node = l; lies = q }) b)
         go false e false q =
             let s = outbox-short n f j (tray j) (hall .inbox j) roomy (sizes-hold j l) r in
             rw (e, q) (record { short = omega arith; bytes = outbox-bytes n f j (tray j) (hall .inbox j) roomy (sizes-hold j l) r })
@@ -135,7 +138,7 @@ module _ (n f : ℕ) (faulty : ℕ → Bool) (tray : ℕ → Tray) (given : ℕ 
     enough-room i ci = record {
       opens = omega (arith, opening-size (fresh n f i) (tray i) (H .trays i ci));
       steps = λ r b.
-          let t = numbers (nodeAfter hall i r) (hall .inbox i (suc r)) (course-sound n f i (tray i) (hall .inbox i) roomy (sizes-hold i (ci .node)) r) in
+          let t = sound-sizes (nodeAfter hall i r) (course-sound n f i (tray i) (hall .inbox i) roomy (sizes-hold i (ci .node)) r) in
           within-message (nodeAfter hall i r) (hall .inbox i (suc r)) (t .node) (t .most);
       closing = λ e. leb-true _ _ e;
     }

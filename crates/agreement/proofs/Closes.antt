@@ -8,6 +8,7 @@ use native.Mathlib.Nat.{le-refl, le-trans}
 use native.Mathlib.Omega.{arith}
 use borrow.Author.Tests.{le-leb}
 use lib.ListN.{length}
+use Rattle.laws.proofs.Tests.{zero-one}
 use Rattle.rules.specs.Sizes.{fits, isLog}
 use Rattle.rules.specs.Refusals.{done}
 use Rattle.rules.specs.Vote.{Batch}
@@ -83,14 +84,14 @@ module _ (hall : Hall) (i : ℕ) (U : Unhindered hall i) (well-formed : isLog (h
       go true e =
           let g = rw (sym log-ruled, e) at m in
           (makes-log last (hall .old) (hall .output i) sound-last rounds-over well-formed e (U .room .closing e), cc)
-      go false e = let g = rw (sym log-ruled, e) at m in let z : _≡_ {A = ℕ} 0 1 = cc in absurd (omega arith)
+      go false e = let g = rw (sym log-ruled, e) at m in zero-one cc
 
   pub full-closes : newLog (overVotes hall) i ≡ full → closes hall i ≡ 8
   unfolding newLog closed
   full-closes m = go (fits (logOf hall i)) refl
     where
       go : (b : Bool) → fits (logOf hall i) ≡ b → closes hall i ≡ 8
-      go true e = let g = rw (sym log-ruled, e) at m in let z : _≡_ {A = ℕ} 0 1 = cc in absurd (omega arith)
+      go true e = let g = rw (sym log-ruled, e) at m in zero-one cc
       go false e = is-full last (hall .old) (hall .output i) sound-last rounds-over well-formed e
 
   -- one that answers by a log makes it by the rules

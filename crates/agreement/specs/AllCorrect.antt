@@ -11,13 +11,13 @@ use Rattle.agreement.specs.Hall.{Hall}
 use Rattle.agreement.specs.Granted.{Granted}
 use Rattle.agreement.specs.Carried.{carriedHall}
 
--- nobody is faulty
-abbrev pub nobody : ℕ → Bool
-nobody j = false
+-- no node is faulty
+abbrev pub noneFaulty : ℕ → Bool
+noneFaulty j = false
 
 -- every message arrives whole
 abbrev pub allCorrect : (n f : ℕ) (tray : ℕ → Tray) (old : List ℕ) → Hall
-allCorrect n f tray old = carriedHall n f nobody tray (λ r j i. []) old
+allCorrect n f tray old = carriedHall n f noneFaulty tray (λ r j i. []) old
 
 abbrev pub AllCorrectGranted : Type 0
 AllCorrectGranted =

@@ -38,7 +38,7 @@ pub record Calls (hall : Hall) (i : ℕ) : Type 0 where
   pub goes : (r : ℕ) → state (suc r) ≡ stepped r .node
 
 -- they give the run's nodes, outboxes and logs
-pub record Given (hall : Hall) (i : ℕ) (calls : Calls hall i) : Type 0 where
+pub record Gives (hall : Hall) (i : ℕ) (calls : Calls hall i) : Type 0 where
   pub nodes : (r : ℕ) → calls .state r ≡ nodeAfter hall i r
   pub opening : take (calls .opened .length) (calls .back 1) ≡ sends hall i 1
   pub outboxes : (r : ℕ) → take (calls .stepped r .length) (calls .back (suc (suc r))) ≡ sends hall i (suc (suc r))
@@ -46,4 +46,4 @@ pub record Given (hall : Hall) (i : ℕ) (calls : Calls hall i) : Type 0 where
   pub log : closes hall i ≡ done → take (calls .closed .length) (calls .written) ≡ logOf hall i
 
 abbrev pub CallsGive : Type 0
-CallsGive = (hall : Hall) (i : ℕ) (calls : Calls hall i) → Given hall i calls
+CallsGive = (hall : Hall) (i : ℕ) (calls : Calls hall i) → Gives hall i calls

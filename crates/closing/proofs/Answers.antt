@@ -11,11 +11,11 @@ use Rattle.laws.specs.Order.{ascends}
 use Rattle.laws.specs.Parts.{onto}
 use Rattle.rules.specs.Sizes.{logMost, fits, isLog}
 use Rattle.rules.specs.Log.{join}
-use Rattle.rules.proofs.Sizes.{sizes-told, log-most, log-ascends}
+use Rattle.rules.proofs.Sizes.{log-most, log-ascends}
 use Rattle.rules.proofs.Joins.{joined-ascends, joined-first}
 use Rattle.node.specs.State.{soundNode}
 use Rattle.node.specs.declared.Node.{Node}
-use Rattle.node.proofs.Sound.{sound-told}
+use Rattle.node.proofs.Sound.{sound-sizes}
 use Rattle.closing.specs.Close.{decisionsOf, newLogOf, closeNumber, refusedClose, Close}
 use Rattle.closing.specs.Merge.{Mergeable}
 use Rattle.closing.specs.Gather.{decidedMost, gatheredOf, Gathers}
@@ -26,7 +26,7 @@ use Rattle.closing.specs.declared.decisions.Gathered.{Gathered}
 
 module _ (s : Node) (sound : soundNode s ≡ true) (g : Gathered) (h : Gathers (s .me) (s .own) (s .kept) (s .n) g) where
   pub gathered-most : g .count ≤ decidedMost
-  gathered-most = omega (arith, h .most, sizes-told (s .n) (s .f) (s .me) (sound-told s sound .numbers) .most)
+  gathered-most = omega (arith, h .most, sound-sizes s sound .most)
 
   pub gathered-length : length (gatheredOf g) ≡ g .count
   gathered-length = length-take-le (g .count) (g .entries) (omega (arith, gathered-most, h .places))

@@ -5,9 +5,9 @@ use mathlib.Core.List.{List, [], _∷_}
 use mathlib.Core.Logic.{_⊎_, inl, inr}
 use mathlib.Core.Option.{Option, none, some}
 use mathlib.Core.Path.{_∙_, _≡_, ap, refl, subst, sym}
-use native.Mathlib.Omega.{arith}
 use lib.ListN.{drop, getD}
 use Rattle.laws.specs.Members.{In}
+use Rattle.laws.proofs.Tests.{zero-one}
 use Rattle.entries.specs.Bytes.{AreBytes}
 use Rattle.text.specs.Lines.{keyed, linesOf, valueOf}
 use Rattle.text.specs.Numbers.{fieldOf, wordMost}
@@ -24,7 +24,7 @@ some-is : {x y : Send} → some x ≡ some y → x ≡ y
 some-is e = cc
 
 none-some : {x : Send} → none ≡ some x → ⊥
-none-some e = let z : _≡_ {A = ℕ} 0 1 = cc in omega arith
+none-some e = zero-one cc
 
 as-bytes : (a b c : Number) (m : List ℕ) (x : Send) → sendAs a b c m ≡ some x → AreBytes (x .message)
 unfolding sendAs

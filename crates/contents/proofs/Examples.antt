@@ -1,8 +1,8 @@
 -- What document 01's schedule holds, computed.
-use Prim.Native.Nat.{_*_, _+_, _^_}
 use mathlib.Core.List.{[], _∷_}
 use mathlib.Core.Path.{_≡_, refl}
 use Rattle.laws.specs.Masks.{maskOf}
+use Rattle.entries.specs.Fields.{entry}
 use Rattle.rules.specs.Sizes.{isBatch, sized}
 use Rattle.text.specs.Hex.{hexOf, isHex, pairsOf}
 use Rattle.text.specs.Lines.{keyed, linesOf, listLine, numberLine}
@@ -16,8 +16,8 @@ use Rattle.contents.specs.Contents.{entriesOfTray, faultyIn, faultyLine,
 
 contents : (faultyOf document ≡ 0 ∷ [])
     × (entriesOfTray document 0 ≡ [])
-    × (entriesOfTray document 1 ≡ (1 * 2 ^ 48 + 5 * 2 ^ 32 + 40) ∷ [])
-    × (entriesOfTray document 2 ≡ (2 * 2 ^ 48 + 5 * 2 ^ 32 + 60) ∷ [])
+    × (entriesOfTray document 1 ≡ entry 1 5 40 ∷ [])
+    × (entriesOfTray document 2 ≡ entry 2 5 60 ∷ [])
     × (sendsOf document ≡ record { round = 1; from = 0; to = 1; message = 0 ∷ 1 ∷ 1 ∷ 0 ∷ 0 ∷ 3 ∷ 0 ∷ 5 ∷ 0 ∷ 0 ∷ 0 ∷ 70 ∷ [] } ∷ [])
     × (sendLine document 0 ≡ 7)
     × (messageFor document 1 0 1 ≡ 0 ∷ 1 ∷ 1 ∷ 0 ∷ 0 ∷ 3 ∷ 0 ∷ 5 ∷ 0 ∷ 0 ∷ 0 ∷ 70 ∷ [])

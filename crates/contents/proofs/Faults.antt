@@ -9,6 +9,7 @@ use lib.Dec.{eqb, ltb}
 use lib.ListN.{length}
 use Rattle.laws.specs.Masks.{asBit, bit, count, maskOf}
 use Rattle.laws.specs.Members.{holds}
+use Rattle.laws.proofs.Count.{count-none}
 use Rattle.laws.proofs.Bits.{mask-bit}
 use Rattle.laws.proofs.Tests.{clash}
 use Rattle.rules.specs.Sizes.{nodesMost}
@@ -92,12 +93,7 @@ at-most-one : (t : Bool) → asBit t ≤ 1
 at-most-one true = omega arith
 at-most-one false = omega arith
 
-nobody : (n : ℕ) → count (λ (j : ℕ). false) n ≡ 0
-unfolding count
-nobody zero = refl
-nobody (suc n) = omega (arith, nobody n)
-
 pub count-listed : (xs : List ℕ) (n : ℕ) → count (λ (j : ℕ). holds j xs) n ≤ length xs
-count-listed [] n = omega (arith, nobody n)
+count-listed [] n = omega (arith, count-none n)
 count-listed (x ∷ xs) n =
     omega (arith, count-either (λ (j : ℕ). eqb x j) (λ (j : ℕ). holds j xs) n, count-one x n, at-most-one (ltb x n), count-listed xs n)

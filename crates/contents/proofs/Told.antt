@@ -14,7 +14,7 @@ use lib.Seq.{drop-drop}
 use Rattle.laws.specs.Members.{In}
 use Rattle.laws.specs.Order.{ascendsFrom}
 use Rattle.laws.proofs.Members.{same-eq}
-use Rattle.laws.proofs.Tests.{both}
+use Rattle.laws.proofs.Tests.{both, zero-one}
 use Rattle.text.specs.Lines.{keyed, linesOf, valueOf}
 use Rattle.text.proofs.Keys.{key-starts}
 use Rattle.schedule.specs.Forms.{formAfter, formOf, formSends, formTrays, isEnd, isTray, scheduleMost}
@@ -31,7 +31,7 @@ use Rattle.contents.proofs.Lines.{header-is}
 use Rattle.contents.proofs.Walk.{sends-none, sends-some}
 
 bad-good : {k n f : ℕ} → Bad k ≡ Good n f → ⊥
-bad-good e = let z : _≡_ {A = ℕ} 0 1 = cc in omega arith
+bad-good e = zero-one cc
 
 good-is : {a b n f : ℕ} → Good a b ≡ Good n f → (a ≡ n) × (b ≡ f)
 good-is e = (cc, cc)

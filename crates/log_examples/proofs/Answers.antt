@@ -1,5 +1,5 @@
 -- What the rules answer in each example: of four entries computed, of the full log by its laws.
-use Prim.Native.Nat.{ℕ, _+_, _*_, _^_}
+use Prim.Native.Nat.{ℕ, _+_}
 use mathlib.Core.Path.{_≡_, refl, ap, _∙_}
 use mathlib.Core.Bool.{true}
 use mathlib.Core.List.{List, [], _∷_}
@@ -7,6 +7,7 @@ use native.Mathlib.Omega.{arith}
 use borrow.Author.Tests.{eq-eqb}
 use lib.Dec.{eqb}
 use lib.ListN.{length, take}
+use Rattle.entries.specs.Fields.{entry}
 use Rattle.rules.specs.Sizes.{logMost, fits, isLog}
 use Rattle.rules.specs.Refusals.{done, ifDone}
 use Rattle.rules.proofs.Sizes.{too-long, not-too-long}
@@ -17,7 +18,7 @@ use Rattle.log_examples.proofs.Full.{full-length, full-take, full-ascen
 
 -- an entry of meter 3
 abbrev inInterval : (interval wattHours : ℕ) → ℕ
-inInterval interval wattHours = 3 * 2 ^ 48 + interval * 2 ^ 32 + wattHours
+inInterval interval wattHours = entry 3 interval wattHours
 
 abbrev four : List ℕ
 four = inInterval 4 1 ∷ inInterval 5 70 ∷ inInterval 6 2 ∷ inInterval 7 4 ∷ []

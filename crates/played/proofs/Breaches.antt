@@ -1,7 +1,7 @@
 -- The first send that breaks the rule, send by send: the answer for the whole is the answer for those that are left.
 use Prim.Native.Nat.{ℕ, zero, suc, _+_, _≤_, _<_}
 use mathlib.Core.Path.{_≡_, refl, sym, ap, ap₂, _∙_}
-use mathlib.Core.Bool.{Bool, true, false, _&&_, cond}
+use mathlib.Core.Bool.{Bool, true, false, _&&_, cond, and-false}
 use mathlib.Core.List.{List}
 use native.Mathlib.Numerals.{add-one}
 use native.Mathlib.Omega.{arith}
@@ -101,10 +101,6 @@ module _ (s : List ℕ) (n f : ℕ) where
   pub other-faults : (x : Played) (form : Form) (m g : ℕ) → form ≡ Good m g → form ≡ formOf s → g ≢ f → x ≡ record { bad = 0; nodes = noNodes } → x ≡ playedOf s n f
   unfolding goodAs
   other-faults x form m g a e d q = not-good x (ap (goodAs n f) (sym e ∙ a) ∙ ap (λ (t : Bool). eqb m n && t) (ne-eqb g f d) ∙ and-false (eqb m n)) q
-    where
-      and-false : (t : Bool) → (t && false) ≡ false
-      and-false true = refl
-      and-false false = refl
 
   pub bad-form : (x : Played) (form : Form) (k : ℕ) → form ≡ Bad k → form ≡ formOf s → x ≡ record { bad = 0; nodes = noNodes } → x ≡ playedOf s n f
   unfolding goodAs

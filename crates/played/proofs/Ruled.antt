@@ -4,18 +4,17 @@ use Prim.Native.Nat.{ℕ, zero, suc, _+_, _-_, _≤_, _<_}
 use mathlib.Core.Path.{_≡_, refl, sym, ap, ap₂, _∙_}
 use mathlib.Core.Logic.{inl, inr}
 use mathlib.Core.Bool.{Bool, true, false, not, _&&_, _||_, cond}
-use mathlib.Core.List.{List, [], _∷_, _++_}
+use mathlib.Core.List.{List, [], _∷_}
 use mathlib.Core.Option.{Option, none, some}
 use native.Mathlib.Nat.{le-refl, le-trans, le-suc}
 use native.Mathlib.Omega.{arith}
-use borrow.Author.Tests.{lt-ltb, eqb-true, eqb-false}
+use borrow.Author.Tests.{lt-ltb}
 use lib.Dec.{eqb, ltb}
-use lib.ListN.{length, replicate}
+use lib.ListN.{length}
 use Rattle.laws.specs.Masks.{bit, every, maskOf}
 use Rattle.laws.specs.Members.{In, same, among, those}
-use Rattle.laws.proofs.Members.{same-self}
-use Rattle.laws.proofs.Equal.{unlike-long}
-use Rattle.rules.specs.Sizes.{nodesMost, batchMost}
+use Rattle.laws.proofs.Bits.{mask-tells}
+use Rattle.rules.specs.Sizes.{nodesMost}
 use Rattle.rules.specs.Vote.{Batch, Vote, shows}
 use Rattle.rules.specs.Run.{kept}
 use Rattle.rules.proofs.Kept.{Few}
@@ -30,6 +29,7 @@ use Rattle.node.specs.State.{keptFor, nodeOf}
 use Rattle.node.specs.declared.Node.{Node}
 use Rattle.node.proofs.Sound.{of-kept}
 use Rattle.round.specs.Found.{votesIn}
+use Rattle.node.proofs.Lists.{same-batch}
 use Rattle.agreement.specs.Hall.{Hall, nodeAfter}
 use Rattle.agreement.specs.Granted.{Round}
 use Rattle.agreement.specs.Rule.{hasSent, forgedFor, breaksRule}
@@ -38,31 +38,13 @@ use Rattle.agreement.proofs.SentBy.{sent-by-state}
 use Rattle.schedule.specs.Forms.{formOf}
 use Rattle.schedule.specs.declared.Form.the-variants.{Good}
 use Rattle.contents.specs.Contents.{isFaulty}
-use Rattle.shown.specs.Shown.{sameBatch, keptHolds, hasSent as sentHeld, nodeAt, forgedFor as forgedHeld, forged as forgedShown, forgedAmong, breaks}
-use Rattle.played.specs.Standing.{correct, nodeBefore, standing}
+use Rattle.shown.specs.Shown.{keptHolds, hasSent as sentHeld, nodeAt, forgedFor as forgedHeld, forged as forgedShown, forgedAmong, breaks}
+use Rattle.played.specs.Standing.{nodeBefore, standing}
 use Rattle.played.specs.Playing.{hallOf}
 use Rattle.played.specs.declared.Standing.{Standing}
-use Rattle.played.proofs.Standings.{mask-tells, node-there, goes-on, nodes-sized, nodes-most}
+use Rattle.played.proofs.Standings.{node-there, goes-on, nodes-sized, nodes-most}
 
 -- ---- batches, place by place
-
-same-front : (b c z : List ℕ) → length b ≡ length c → same (b ++ z) (c ++ z) ≡ same b c
-same-front [] [] z e = same-self z
-same-front [] (y ∷ c) z e = absurd (omega arith)
-same-front (x ∷ b) [] z e = absurd (omega arith)
-same-front (x ∷ b) (y ∷ c) z e = ap (λ (t : Bool). eqb x y && t) (same-front b c z (omega arith))
-
-held-same : (b c : List ℕ) → sameBatch (batchOf b) (batchOf c) ≡ same b c
-held-same b c = go (eqb (length b) (length c)) refl
-  where
-    go : (t : Bool) → eqb (length b) (length c) ≡ t → sameBatch (batchOf b) (batchOf c) ≡ same b c
-    go true e =
-        let l : length b ≡ length c = eqb-true (length b) (length c) e in
-        ap (λ (x : Bool). x && same (batchOf b .entries) (batchOf c .entries)) e
-        ∙ ap (λ (k : ℕ). same (b ++ replicate (batchMost - k) 0) (c ++ replicate (batchMost - length c) 0)) l
-        ∙ same-front b c (replicate (batchMost - length c) 0) l
-    go false e =
-        ap (λ (x : Bool). x && same (batchOf b .entries) (batchOf c .entries)) e ∙ sym (unlike-long b c (eqb-false (length b) (length c) e))
 
 or-none : (t : Bool) → (t || false) ≡ t
 or-none true = refl
@@ -70,8 +52,8 @@ or-none false = refl
 
 kept-among : (bs : List Batch) (b : Batch) → Few bs → keptHolds (keptAs bs) (batchOf b) ≡ among b bs
 kept-among [] b few = refl
-kept-among (x ∷ []) b few = ap (λ (t : Bool). t || false) (held-same b x)
-kept-among (x ∷ y ∷ []) b few = ap₂ (λ (t u : Bool). t || u) (held-same b x) (held-same b y) ∙ ap (λ (t : Bool). same b x || t) (sym (or-none (same b y)))
+kept-among (x ∷ []) b few = ap (λ (t : Bool). t || false) (same-batch b x)
+kept-among (x ∷ y ∷ []) b few = ap₂ (λ (t u : Bool). t || u) (same-batch b x) (same-batch b y) ∙ ap (λ (t : Bool). same b x || t) (sym (or-none (same b y)))
 kept-among (x ∷ y ∷ z ∷ bs) b few = absurd few
 
 -- ---- one node's state
@@ -83,7 +65,7 @@ module _ (n f c phase : ℕ) (own : List ℕ) (kept : ℕ → List Batch) (p : �
   state-sent : sentHeld state p (batchOf b) ≡ ((eqb p c && same b own) || among b (keptFor state p))
   unfolding sentHeld
   state-sent =
-      ap₂ (λ (t u : Bool). (eqb p c && t) || u) (held-same b own)
+      ap₂ (λ (t u : Bool). (eqb p c && t) || u) (same-batch b own)
       (ap (λ (k : _). keptHolds k (batchOf b)) (each-at (λ (q : ℕ). keptAs (kept q)) _ nodesMost p l) ∙ kept-among (kept p) b few
       ∙ ap (among b) (sym (of-kept n f c phase own kept p l few)))
 
@@ -141,7 +123,7 @@ module _ (s : List ℕ) (n f : ℕ) (form : formOf s ≡ Good n f) (faulty : ℕ
   forged-for v k c l = go (isFaulty s c) refl
     where
       bit-is : eqb (bit faulty c) 1 ≡ isFaulty s c
-      bit-is = ap (λ (m : ℕ). eqb (bit m c) 1) mask ∙ mask-tells (isFaulty s) c (omega (arith, l, nodes-most s n f form))
+      bit-is = ap (λ (m : ℕ). eqb (bit m c) 1) mask ∙ mask-tells (isFaulty s) nodesMost c (omega (arith, l, nodes-most s n f form))
 
       go : (b : Bool) → isFaulty s c ≡ b
           → not (forgedHeld faulty (nodeAt (here .nodes) c) (v .primary) (v .mask) (batchOf (v .batch)) c) ≡ not (forgedFor hall (suc r) v c)

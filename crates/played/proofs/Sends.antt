@@ -8,7 +8,7 @@ use borrow.Author.Tests.{ltb-true}
 use lib.Dec.{ltb}
 use lib.ListN.{length, getD, length-map, List·getD-map}
 use Rattle.laws.specs.Order.{ascendsFrom, ascends}
-use Rattle.laws.proofs.Tests.{both}
+use Rattle.laws.proofs.Tests.{both, zero-one}
 use Rattle.laws.proofs.Order.{places-rise}
 use Rattle.laws.proofs.Members.{at-in}
 use Rattle.rules.specs.Sizes.{nodesMost}
@@ -45,7 +45,7 @@ pub sent-numbers : (xs : List Send) (k r i j : ℕ) → k < length xs → Sent r
 sent-numbers xs k r i j l e = sent-is (e ∙ sending-at xs k l)
 
 pub never-none : (xs : List Send) (k : ℕ) → k < length xs → NoSend ≡ sendingAt xs k → ⊥
-never-none xs k l e = let q = e ∙ sending-at xs k l in let z : _≡_ {A = ℕ} 0 1 = cc in omega arith
+never-none xs k l e = let q = e ∙ sending-at xs k l in zero-one cc
 
 -- ---- their order
 

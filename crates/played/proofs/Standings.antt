@@ -2,7 +2,7 @@
 use Prim.Native.Nat.{ℕ, zero, suc, _+_, _*_, _≤_, _<_}
 use mathlib.Core.Path.{_≡_, refl, sym, ap, ap₂, subst, _∙_}
 use mathlib.Core.Logic.{_≢_, ⊎-elim}
-use mathlib.Core.Bool.{Bool, true, false, not, _&&_, cond}
+use mathlib.Core.Bool.{Bool, true, false, not, cond}
 use mathlib.Core.List.{List, [], _∷_}
 use native.Mathlib.Numerals.{add-one}
 use native.Mathlib.Omega.{arith}
@@ -10,9 +10,9 @@ use borrow.Author.Tests.{lt-ltb, le-ltb, ltb-true, eq-eqb, ne-eqb}
 use lib.Dec.{eqb, ltb}
 use lib.ListN.{length, getD, drop, replicate}
 use lib.Seq.{take-at}
-use Rattle.laws.specs.Masks.{bit, asBit, maskOf}
+use Rattle.laws.specs.Masks.{bit, maskOf}
 use Rattle.laws.proofs.Tests.{both}
-use Rattle.laws.proofs.Bits.{mask-bit}
+use Rattle.laws.proofs.Bits.{mask-tells}
 use Rattle.laws.proofs.Order.{lt-or-ge}
 use Rattle.rules.specs.Sizes.{nodesMost, sized}
 use Rattle.rules.specs.Step.{gather}
@@ -42,14 +42,6 @@ use Rattle.played.specs.Playing.{hallOf}
 use Rattle.played.specs.declared.Outbox.{Outbox}
 use Rattle.played.specs.declared.Standing.{Standing}
 use Rattle.played.specs.declared.Stood.{Stood}
-
--- a node's bit in a mask
-pub mask-tells : (t : ℕ → Bool) (j : ℕ) → j < nodesMost → eqb (bit (maskOf t nodesMost) j) 1 ≡ t j
-mask-tells t j l = ap (λ (x : ℕ). eqb x 1) (mask-bit t nodesMost j) ∙ ap (λ (b : Bool). eqb (asBit (b && t j)) 1) (lt-ltb j nodesMost l) ∙ go (t j)
-  where
-    go : (b : Bool) → eqb (asBit b) 1 ≡ b
-    go true = refl
-    go false = refl
 
 -- beyond its end a list has nothing
 past-end : {A : Type 0} (xs : List A) (j : ℕ) (d : A) → length xs ≤ j → getD xs j d ≡ d
@@ -111,8 +103,7 @@ module _ (s : List ℕ) (n f : ℕ) (form : formOf s ≡ Good n f) where
     above = nodes-above;
     trays = λ i ci. of-is-sound (entriesOfTray s i) (tray-batch s i);
     entries = λ i ci. subst AreEntries (sym (of-entries (entriesOfTray s i))) (tray-entries s i);
-    short = λ i j r ci fj b. omega (arith, message-size s n f r j i form);
-    bytes = λ i j r ci fj b. message-bytes s r j i;
+    messages = λ i j r ci fj b. record { short = omega (arith, message-size s n f r j i form); bytes = message-bytes s r j i };
   }
 
   pub goes-on : (i : ℕ) → Correct hall i → Unhindered hall i
@@ -128,7 +119,7 @@ module _ (s : List ℕ) (n f : ℕ) (form : formOf s ≡ Good n f) where
   module _ (faulty : ℕ) (mask : faulty ≡ maskOf (isFaulty s) nodesMost) (here : Standing) (stands : here ≡ standing hall (here .next)) where
     -- a faulty node's bit
     bit-is : (j : ℕ) → j < nodesMost → eqb (bit faulty j) 1 ≡ isFaulty s j
-    bit-is j l = ap (λ (m : ℕ). eqb (bit m j) 1) mask ∙ mask-tells (isFaulty s) j l
+    bit-is j l = ap (λ (m : ℕ). eqb (bit m j) 1) mask ∙ mask-tells (isFaulty s) nodesMost j l
 
     -- ---- every outbox is short
 

@@ -5,6 +5,7 @@ use mathlib.Core.List.{List, []}
 use lib.ListN.{length, replicate}
 use Rattle.laws.specs.Parts.{onto}
 use Rattle.rules.specs.Refusals.{ifDone}
+use Rattle.rules.proofs.Refusals.{done-length, done-onto}
 use Rattle.wire.specs.Sizes.{messageMost}
 use Rattle.wire.specs.Record.{recordBytes}
 use Rattle.wire.specs.Message.{messageBytes}
@@ -33,15 +34,6 @@ stood s size bytes = record { node = s; outbox = record { size = size; bytes = b
 stood-same : (s t : Node) (a b : ℕ) (x y : List ℕ) → s ≡ t → a ≡ b → x ≡ y → stood s a x ≡ stood t b y
 stood-same s t a b x y p q r = λ i. record { node = p i; outbox = record { size = q i; bytes = r i } }
 
--- a message that a call wrote, or none where it was refused
-size-is : (k : ℕ) (m : List ℕ) → ifDone k (length m) 0 ≡ length (ifDone k m [])
-size-is zero m = refl
-size-is (suc k) m = refl
-
-bytes-are : (k : ℕ) (m z : List ℕ) → ifDone k (onto m z) z ≡ onto (ifDone k m []) z
-bytes-are zero m z = refl
-bytes-are (suc k) m z = refl
-
 either-way : (k : ℕ) (x : Node) → ifDone k x x ≡ x
 either-way zero x = refl
 either-way (suc k) x = refl
@@ -62,13 +54,13 @@ module _ (s : List ℕ) (n f i : ℕ) where
       let m = recordBytes (openingVote (made n f i) tray) in
       stood-same (o .node) (ifDone k (openedNode (made n f i) tray) (made n f i)) (o .length) (length (ifDone k m [])) w (onto (ifDone k m []) zeros)
       (p .node ∙ ap₂ (λ (a : Node) (b : Tray). ifDone (openNumber a b messageMost) (openedNode a b) a) (h .node) e)
-      (p .size ∙ ap₂ (λ (a : Node) (b : Tray). ifDone (openNumber a b messageMost) (length (recordBytes (openingVote a b))) 0) (h .node) e ∙ size-is k m)
+      (p .size ∙ ap₂ (λ (a : Node) (b : Tray). ifDone (openNumber a b messageMost) (length (recordBytes (openingVote a b))) 0) (h .node) e ∙ done-length k m)
       (p .outbox-is ∙ ap₂ (λ (a : Node) (b : Tray). ifDone (openNumber a b messageMost) (onto (recordBytes (openingVote a b)) zeros) zeros) (h .node) e
-      ∙ bytes-are k m zeros)
+      ∙ done-onto k m zeros)
 
 pub stepped-stands : (x : Node) (inbox : List ℕ) (o : Stepped) (w : List ℕ) → Step x inbox zeros o w → stood (o .node) (o .length) w ≡ steppedTo x inbox
 stepped-stands x inbox o w p =
     let k = stepNumber x inbox messageMost in
     let m = messageBytes (passedBy x inbox) in
     stood-same (o .node) (steppedTo x inbox .node) (o .length) (length (ifDone k m [])) w (onto (ifDone k m []) zeros)
-    (p .node) (p .size ∙ size-is k m) (p .outbox-is ∙ bytes-are k m zeros)
+    (p .node) (p .size ∙ done-length k m) (p .outbox-is ∙ done-onto k m zeros)

@@ -1,9 +1,10 @@
 -- "Output, whole: n, f, then for each correct node, ascending, its number, log and signers; an empty log is `log=`": lines of key=value, numbers in
 -- decimal, entries as meter.interval.watthours, lists by commas.
-use Prim.Native.Nat.{ℕ, zero, suc, _+_, _/_, _%_, _^_}
+use Prim.Native.Nat.{ℕ, zero, suc, _+_, _/_, _%_}
 use mathlib.Core.Bool.{cond}
 use mathlib.Core.List.{List, [], _∷_, _++_}
 use lib.Dec.{ltb}
+use Rattle.entries.specs.Fields.{meterOf, intervalOf, wattHoursOf}
 use Rattle.text.specs.Places.{lf, comma, dot}
 use Rattle.print.specs.declared.Items.{Items}
 use Rattle.print.specs.declared.Items.the-variants.{Nodes, Entries}
@@ -19,11 +20,11 @@ decimalOf v = digitsIn (suc v) v
 
 -- interval.watthours
 abbrev pub lowText : ℕ → List ℕ
-lowText x = (decimalOf (x / 2 ^ 32 % 2 ^ 16) ++ (dot ∷ [])) ++ decimalOf (x % 2 ^ 32)
+lowText x = (decimalOf (intervalOf x) ++ (dot ∷ [])) ++ decimalOf (wattHoursOf x)
 
 -- meter.interval.watthours
 abbrev pub entryText : ℕ → List ℕ
-entryText x = (decimalOf (x / 2 ^ 48) ++ (dot ∷ [])) ++ lowText x
+entryText x = (decimalOf (meterOf x) ++ (dot ∷ [])) ++ lowText x
 
 -- an item of a list: a node's number, or an entry
 unfoldable pub itemText : Items → ℕ → List ℕ

@@ -56,7 +56,7 @@ module _ (s : List ℕ) (n f : ℕ) (good : formOf s ≡ Good n f) (kept : breac
   G = run-granted s n f good kept
 
   -- node i when its rounds are over
-  abbrev last : ℕ → Node
+  abbrev pub last : ℕ → Node
   last i = nodeAfter hall i (f + 1)
 
   module _ (i : ℕ) (ci : Correct hall i) where
@@ -71,11 +71,11 @@ module _ (s : List ℕ) (n f : ℕ) (good : formOf s ≡ Good n f) (kept : breac
         omega (arith, a, b)
 
     -- the log that is printed is the one that its close makes
-    printed : printedLog (last i) ≡ logOf hall i
+    pub printed : printedLog (last i) ≡ logOf hall i
     printed = makes-log (last i) sound-last rounds-over
 
     -- and the close does make one
-    makes : closes hall i ≡ done
+    pub makes : closes hall i ≡ done
     unfolding closeNumber isLog fits
     makes =
         let l : length (newLogOf (last i) []) ≤ logMost = omega (arith, new-log-most (last i) sound-last) in

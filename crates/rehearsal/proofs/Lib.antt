@@ -1,5 +1,6 @@
 pub mod Premises
 pub mod Agreed
+pub mod Signing
 pub mod Tellings
 pub mod Determined
 pub mod Document

@@ -1,7 +1,7 @@
 -- A schedule of good form that does not break the rule on shown votes is a run that demand 3 grants: its run is carried whole, and every message of a faulty
 -- node is one of its sends, or silence.
 use Prim.Native.Nat.{ℕ, _+_, _<_}
-use mathlib.Core.Path.{_≡_, refl, sym, subst}
+use mathlib.Core.Path.{_≡_, refl, subst}
 use mathlib.Core.Bool.{Bool, true, false, cond}
 use mathlib.Core.List.{List, [], _∷_}
 use native.Mathlib.Omega.{arith}
@@ -9,26 +9,18 @@ use borrow.Author.Tests.{eqb-true}
 use lib.Dec.{eqb}
 use Rattle.laws.proofs.Tests.{both}
 use Rattle.rules.specs.Sizes.{fits, isLog}
-use Rattle.entries.specs.Bytes.{AreEntries}
-use Rattle.wire.specs.Message.{votesAfter, votesOf}
 use Rattle.tray.specs.Trays.{trayOf}
-use Rattle.tray.proofs.Sound.{of-entries, of-is-sound}
 use Rattle.agreement.specs.Hall.{Hall}
 use Rattle.agreement.specs.Granted.{Granted}
 use Rattle.agreement.specs.Rule.{breaksRule}
-use Rattle.agreement.proofs.Carried.{carried-granted}
+use Rattle.agreement.proofs.Carried.{silence-keeps, carried-granted}
 use Rattle.schedule.specs.Sends.{Send}
 use Rattle.schedule.specs.Forms.{formOf}
 use Rattle.schedule.specs.declared.Form.the-variants.{Good}
 use Rattle.contents.specs.Contents.{sendLine, isFaulty, entriesOfTray, sendsOf, messageFor, messageIn, numbered}
-use Rattle.contents.proofs.Good.{good-sizes, faulty-count, tray-batch, tray-entries}
-use Rattle.contents.proofs.Found.{message-bytes, message-size}
+use Rattle.contents.proofs.Good.{faulty-count}
 use Rattle.played.specs.Playing.{hallOf, breachFrom, breach}
-
--- silence shows nothing
-silence-keeps : (hall : Hall) (r : ℕ) → breaksRule hall r [] ≡ false
-unfolding breaksRule votesOf votesAfter
-silence-keeps hall r = refl
+use Rattle.played.proofs.Standings.{given}
 
 numbers-are : (r j i q k l : ℕ) → numbered r j i q k l ≡ true → q ≡ r
 unfolding numbered
@@ -57,13 +49,5 @@ module _ (s : List ℕ) (n f : ℕ) (good : formOf s ≡ Good n f) where
   pub run-granted : breach s n f ≡ 0 → Granted (hallOf s n f)
   run-granted kept =
       carried-granted n f (isFaulty s) (λ i. trayOf (entriesOfTray s i)) (λ r j i. messageFor s r j i) []
-      (record {
-        nodes = good-sizes s n f good .0;
-        above = good-sizes s n f good .1;
-        trays = λ i ci. of-is-sound (entriesOfTray s i) (tray-batch s i);
-        entries = λ i ci. subst AreEntries (sym (of-entries (entriesOfTray s i))) (tray-entries s i);
-        short = λ i j r ci fj b. omega (arith, message-size s n f r j i good);
-        bytes = λ i j r ci fj b. message-bytes s r j i;
-      })
-      (faulty-count s n f good) empty-log
+      (given s n f good) (faulty-count s n f good) empty-log
       (λ i j r ci fj b. message-keeps (hallOf s n f) (sendLine s 0) (sendsOf s) (omega arith) kept r j i)

@@ -1,17 +1,17 @@
 -- What is told of a schedule: a bad line is short, and what was played is what the report asks for: the nodes after the last round, and who is faulty.
 use Prim.Native.Nat.{ℕ, zero, suc, _+_, _^_, _≤_, _<_}
 use mathlib.Core.Path.{_≡_, refl, sym, ap, ap₂, subst, _∙_}
-use mathlib.Core.Bool.{Bool, true, false, _&&_}
+use mathlib.Core.Bool.{Bool, true, false}
 use mathlib.Core.List.{List}
 use native.Mathlib.Nat.{le-trans}
 use native.Mathlib.Numerals.{add-one}
 use native.Mathlib.Omega.{arith}
 use borrow.Author.Tests.{lt-leb, le-leb, leb-true, lt-ltb, eq-eqb}
-use lib.Dec.{eqb, leb, ltb}
+use lib.Dec.{leb}
 use lib.ListN.{length, take, drop}
 use lib.Seq.{take-append-seam}
-use Rattle.laws.specs.Masks.{bit, asBit, maskOf}
-use Rattle.laws.proofs.Bits.{mask-bit}
+use Rattle.laws.specs.Masks.{maskOf}
+use Rattle.laws.proofs.Bits.{mask-tells}
 use Rattle.rules.specs.Sizes.{nodesMost}
 use Rattle.rules.proofs.Gathered.{each-at}
 use Rattle.rules.proofs.Sizes.{sized-most}
@@ -96,15 +96,8 @@ module _ (s : List ℕ) (n f : ℕ) (good : formOf s ≡ Good n f) where
           let stands : stoodAt hall (suc (suc f)) i .node ≡ nodeAfter hall i (suc f) = simp fine in
           ap (nodeAfter hall i) (add-one f) ∙ sym (node-at i l ∙ stands)
 
-      as-test : (b : Bool) → eqb (asBit b) 1 ≡ b
-      as-test true = refl
-      as-test false = refl
-
       faulty-is : (j : ℕ) → j < n → isFaulty s j ≡ hasBit (maskOf (isFaulty s) nodesMost) j
-      faulty-is j l =
-          let own : bit (maskOf (isFaulty s) nodesMost) j ≡ asBit (ltb j nodesMost && isFaulty s j) = mask-bit (isFaulty s) nodesMost j in
-          let its : bit (maskOf (isFaulty s) nodesMost) j ≡ asBit (isFaulty s j) = own ∙ ap (λ (b : Bool). asBit (b && isFaulty s j)) (lt-ltb j nodesMost (within j l)) in
-          sym (ap (λ (x : ℕ). eqb x 1) its ∙ as-test (isFaulty s j))
+      faulty-is j l = sym (mask-tells (isFaulty s) nodesMost j (within j l))
 
       reported : playedText s n f (breach s n f) ≡ reportOf n f (hasBit (maskOf (isFaulty s) nodesMost)) (nodeAt (p .nodes))
       unfolding playedText

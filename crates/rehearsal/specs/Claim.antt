@@ -7,10 +7,16 @@ use mathlib.Core.List.{List, [], _++_}
 use lib.ListN.{length}
 use Rattle.laws.specs.Members.{In}
 use Rattle.rules.specs.Step.{gather}
+use Rattle.rules.specs.Signers.{Mark}
+use Rattle.agreement.specs.Hall.{nodeAfter}
+use Rattle.agreement.specs.Granted.{Correct, Granted, Counting, Signing}
 use Rattle.schedule.specs.Forms.{formOf}
 use Rattle.schedule.specs.declared.Form.the-variants.{Good}
 use Rattle.contents.specs.Contents.{isFaulty, entriesOfTray}
-use Rattle.played.specs.Playing.{breach}
+use Rattle.played.specs.Playing.{hallOf, breach}
+use Rattle.report.specs.Logs.{logOf as madeLog}
+use Rattle.report.specs.Marks.{markAt}
+use Rattle.report.specs.Spoken.{slotsAt}
 use Rattle.report.specs.Signing.{nodesThat}
 use Rattle.report.specs.Lines.{linesText, sizesLines, nodeLines}
 use Rattle.rehearsal.specs.Rehearsal.{rehearsalOf}
@@ -30,3 +36,25 @@ pub record OneLog (s : List ℕ) (n f : ℕ) (log : List ℕ) : Type 0 where
 
 abbrev pub RehearsalsAgree : Type 0
 RehearsalsAgree = (s : List ℕ) (n f : ℕ) → formOf s ≡ Good n f → breach s n f ≡ 0 → (log : List ℕ) × OneLog s n f log
+
+-- ---- such a schedule is a run that demand 3 grants, signing included
+
+module _ (s : List ℕ) (n f : ℕ) where
+  -- the log that is printed of node i
+  abbrev pub printedLog : ℕ → List ℕ
+  printedLog i = madeLog (nodeAfter (hallOf s n f) i (f + 1))
+
+  -- node i's mark, and the slots that every node is handed
+  abbrev pub marks : ℕ → Mark
+  marks i = markAt (isFaulty s) printedLog n i
+
+  abbrev pub slots : List ℕ
+  slots = slotsAt (isFaulty s) printedLog n
+
+  pub record Grants : Type 0 where
+    pub run : Granted (hallOf s n f)
+    pub signing : Signing (hallOf s n f) marks (λ i. slots)
+    pub counting : (k : ℕ) → Correct (hallOf s n f) k → Counting (hallOf s n f) marks k (marks k) slots
+
+abbrev pub RehearsalsGranted : Type 0
+RehearsalsGranted = (s : List ℕ) (n f : ℕ) → formOf s ≡ Good n f → breach s n f ≡ 0 → Grants s n f

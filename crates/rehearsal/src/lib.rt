@@ -1,7 +1,7 @@
 // The rehearsal: a schedule's bytes in, the printed text out.
 ghost use mathlib.Core.Path.{_≡_};
 ghost use mathlib.Core.Bool.{true};
-ghost use Rattle.rehearsal.specs.Claim.{RehearsalsAgree};
+ghost use Rattle.rehearsal.specs.Claim.{RehearsalsAgree, RehearsalsGranted};
 ghost use Rattle.rehearsal.specs.Rehearsal.{Rehearse};
 
 mod telling;
@@ -36,6 +36,13 @@ pub fn rehearsal(schedule: &[u8], output: &mut [u8]) -> Rehearsed
 // Every schedule that is not bad prints one log, with every entry of every correct node's tray, and the correct nodes as its signers.
 pub fn rehearsals_agree() -> bool
     ensures { λ r. ⌜ (r ≡ true) × RehearsalsAgree ⌝ }
+{
+    true
+}
+
+// Every schedule that is not bad is a run that demand 3 grants, and its marks and slots are as the demand grants for signing.
+pub fn rehearsals_are_granted() -> bool
+    ensures { λ r. ⌜ (r ≡ true) × RehearsalsGranted ⌝ }
 {
     true
 }

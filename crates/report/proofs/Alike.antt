@@ -6,7 +6,7 @@ use mathlib.Core.List.{List, [], _∷_, _++_}
 use native.Mathlib.Omega.{arith}
 use Rattle.laws.specs.Members.{among}
 use Rattle.rules.specs.Signers.{Mark}
-use Rattle.rules.specs.Step.{gather}
+use Rattle.rules.proofs.Inbox.{gather-same}
 use Rattle.node.specs.declared.Node.{Node}
 use Rattle.report.specs.Logs.{logOf}
 use Rattle.report.specs.Marks.{placeIn, markWith, distinct, numberAt, markAt}
@@ -14,11 +14,6 @@ use Rattle.report.specs.Spoken.{slotWith, slotsWith}
 use Rattle.report.specs.Signing.{hasBit, nodesThat, countedWith, signersAt}
 use Rattle.report.specs.Lines.{Line, linesText, sizesLines, nodeLines, allLines, reportLines}
 use Rattle.report.specs.Report.{reportOf}
-
-pub gather-same : {A : Type 0} (g h : ℕ → List A) (n : ℕ) → ((j : ℕ) → j < n → g j ≡ h j) → gather g n ≡ gather h n
-unfolding gather
-gather-same g h zero e = refl
-gather-same g h (suc n) e = ap₂ (λ x y. x ++ y) (gather-same g h n (λ j l. e j (omega arith))) (e n (omega arith))
 
 module _ (n : ℕ) (t u : ℕ → Bool) (faulty : (j : ℕ) → j < n → t j ≡ u j) where
   -- what faulty nodes give does not count

@@ -19,14 +19,13 @@ use Rattle.rules.specs.Sizes.{nodesMost, batchMost, fits, isBatch, isLog}
 use Rattle.rules.specs.Refusals.{refuse_unless_then_, ifDone}
 use Rattle.rules.specs.Step.{gather}
 use Rattle.rules.specs.Log.{onlyKept, decision, decisions, joined}
-use Rattle.rules.proofs.Refusals.{row-passed}
-use Rattle.rules.proofs.Sizes.{sizes-told}
+use Rattle.rules.proofs.Refusals.{row-passed, done-length, done-onto}
 use Rattle.rules.proofs.Joins.{join-most, joined-more}
 use Rattle.entries.specs.Bytes.{AreEntries}
 use Rattle.node.specs.Batches.{entriesOf}
 use Rattle.node.specs.State.{keptFor, soundNode}
 use Rattle.node.specs.declared.Node.{Node}
-use Rattle.node.proofs.Sound.{sound-told, sound-right}
+use Rattle.node.proofs.Sound.{sound-right, sound-sizes}
 use Rattle.tray.proofs.Sound.{batch-parts}
 use Rattle.closing.specs.Close.{newLogOf, closeNumber, Close}
 use Rattle.closing.specs.Gather.{decidedMost}
@@ -38,22 +37,13 @@ use Rattle.report.specs.declared.logs.HeldLog.{HeldLog}
 
 -- ---- one log
 
--- what a call gives that is done, laid into its places, is the places that it gives
-done-count : (row : ℕ) (log : List ℕ) → ifDone row (length log) 0 ≡ length (ifDone row log [])
-done-count zero log = refl
-done-count (suc row) log = refl
-
-done-places : (row : ℕ) (log places : List ℕ) → ifDone row (onto log places) places ≡ onto (ifDone row log []) places
-done-places zero log places = refl
-done-places (suc row) log places = refl
-
 pub close-holds : (s : Node) (r : Closed) (after : List ℕ) → Close s [] (replicate decidedMost 0) r after
     → _≡_ {A = HeldLog} (record { count = r .length; entries = after }) (heldAs (logOf s))
 unfolding logOf
 close-holds s r after h =
-    let e : r .length ≡ length (ifDone (closeNumber s [] decidedMost) (newLogOf s []) []) = h .size ∙ done-count (closeNumber s [] decidedMost) (newLogOf s []) in
+    let e : r .length ≡ length (ifDone (closeNumber s [] decidedMost) (newLogOf s []) []) = h .size ∙ done-length (closeNumber s [] decidedMost) (newLogOf s []) in
     let p : after ≡ onto (ifDone (closeNumber s [] decidedMost) (newLogOf s []) []) (replicate decidedMost 0) =
-    h .output-is ∙ done-places (closeNumber s [] decidedMost) (newLogOf s []) (replicate decidedMost 0) in
+    h .output-is ∙ done-onto (closeNumber s [] decidedMost) (newLogOf s []) (replicate decidedMost 0) in
     λ i. record { count = e i; entries = p i }
 
 -- a close that is not refused has room for the new log
@@ -155,7 +145,7 @@ module _ (s : Node) (sound : soundNode s ≡ true) where
       omega (arith, ap length (joined-more [] before d), join-most (joined [] before) d, decisions-most p (omega arith), decision-most p (omega arith))
 
   pub new-log-most : length (newLogOf s []) ≤ decidedMost
-  new-log-most = omega (arith, decisions-most (s .n) (sizes-told (s .n) (s .f) (s .me) (sound-told s sound .numbers) .most), sizes-told (s .n) (s .f) (s .me) (sound-told s sound .numbers) .most)
+  new-log-most = omega (arith, decisions-most (s .n) (sound-sizes s sound .most), sound-sizes s sound .most)
 
   -- it is the empty log joined with all n decisions
   pub makes-log : s .f + 2 ≤ s .phase → logOf s ≡ newLogOf s []

@@ -2,17 +2,18 @@
 use Prim.Native.Nat.{ℕ, zero, suc, _+_, _*_, _^_, _≤_, _<_}
 use mathlib.Core.Path.{_≡_, refl, sym, ap, ap₂, _∙_}
 use mathlib.Core.Logic.{_⊎_, ⊎-elim, inl, inr}
-use mathlib.Core.Bool.{Bool, true, false, not, cond, _&&_, _||_}
+use mathlib.Core.Bool.{Bool, true, false, not, cond, _||_}
 use mathlib.Core.List.{List, [], _∷_, _++_}
 use mathlib.Core.Option.{none, some}
 use native.Mathlib.Omega.{arith}
-use borrow.Author.Tests.{eq-eqb, le-leb, lt-ltb, eqb-true}
+use borrow.Author.Tests.{eq-eqb, le-leb, eqb-true}
 use lib.Count.{ones}
 use lib.Dec.{eqb}
 use lib.ListN.{length}
 use Rattle.laws.specs.Masks.{asBit, count, maskOf}
 use Rattle.laws.specs.Members.{same, among}
-use Rattle.laws.proofs.Bits.{mask-bit}
+use Rattle.rules.proofs.Inbox.{gather-same}
+use Rattle.laws.proofs.Bits.{mask-tells}
 use Rattle.laws.proofs.Count.{count-not, mask-ones}
 use Rattle.laws.proofs.Members.{same-self}
 use Rattle.laws.proofs.Tests.{clash}
@@ -29,7 +30,7 @@ use Rattle.report.specs.Signing.{hasBit, nodesThat, countedWith, signers
 use Rattle.report.specs.Lines.{linesText, sizesLines, allLines}
 use Rattle.report.specs.Report.{reportOf}
 use Rattle.report.proofs.Speaking.{mark-size, slots-size, slot-at}
-use Rattle.report.proofs.Alike.{gather-same, lines-same}
+use Rattle.report.proofs.Alike.{lines-same}
 
 -- ---- masks
 
@@ -42,14 +43,7 @@ mask-same t u (suc n) e = ap₂ (λ (b : Bool) (m : ℕ). asBit b * 2 ^ n + m) (
 pub mask-nodes : (t : ℕ → Bool) (n : ℕ) → nodesThat (hasBit (maskOf t n)) n ≡ nodesThat t n
 unfolding nodesThat
 mask-nodes t n =
-    gather-same (λ (j : ℕ). cond (hasBit (maskOf t n) j) (j ∷ []) []) (λ (j : ℕ). cond (t j) (j ∷ []) []) n (λ j l. ap (λ (b : Bool). cond b (j ∷ []) []) (its j l))
-  where
-    is-one : (b : Bool) → eqb (asBit b) 1 ≡ b
-    is-one true = refl
-    is-one false = refl
-
-    its : (j : ℕ) → j < n → hasBit (maskOf t n) j ≡ t j
-    its j l = ap (λ (k : ℕ). eqb k 1) (mask-bit t n j) ∙ ap (λ (b : Bool). eqb (asBit (b && t j)) 1) (lt-ltb j n l) ∙ is-one (t j)
+    gather-same (λ (j : ℕ). cond (hasBit (maskOf t n) j) (j ∷ []) []) (λ (j : ℕ). cond (t j) (j ∷ []) []) n (λ j l. ap (λ (b : Bool). cond b (j ∷ []) []) (mask-tells t n j l))
 
 -- ---- slots
 

@@ -2,7 +2,6 @@
 ghost use mathlib.Core.Path.{_≡_};
 ghost use Rattle.round.specs.Found.{Begin, TakeInbox, takesUp};
 use crate::Found;
-use crate::keeping::batch_from;
 use crate::keeping::is_new;
 use crate::keeping::is_wanted;
 use crate::keeping::keep;
@@ -77,7 +76,7 @@ pub fn take_inbox(
                         next,
                     } => {
                         if is_wanted(me, round, primary, mask, after[primary].kept.count) {
-                            let batch = batch_from(wire::batch_bytes(n, part));
+                            let batch = node::batch_from(wire::batch_bytes(n, part));
                             let its = after[primary];
                             if is_new(its, batch) {
                                 after[primary] = keep(its, mask, batch);

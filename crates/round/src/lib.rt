@@ -4,7 +4,6 @@ mod keeping;
 
 pub use finding::begin;
 pub use finding::take_inbox;
-pub use keeping::same_batch;
 use node::Kept;
 
 // What a round has found for one primary: what is kept, and beside each batch newly kept the mask of the first accepted vote for it, else 0.

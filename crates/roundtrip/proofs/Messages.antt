@@ -11,6 +11,7 @@ use lib.Dec.{leb, lit<}
 use lib.ListN.{length, drop, length-drop, take-append-drop}
 use lib.Seq.{drop-append-seam}
 use Rattle.laws.specs.Members.{In}
+use Rattle.wire.proofs.Sayable.{not-some}
 use Rattle.laws.proofs.Tests.{clash}
 use Rattle.rules.specs.Sizes.{nodesMost}
 use Rattle.rules.specs.Vote.{Vote}
@@ -24,9 +25,6 @@ use Rattle.roundtrip.specs.Records.{Sayable}
 use Rattle.roundtrip.specs.Messages.{AllSayable, BytesOf, OneUnreadable, Messages}
 use Rattle.roundtrip.proofs.Entries.{append-bytes, drop-bytes}
 use Rattle.roundtrip.proofs.Records.{reads-back, record-bytes, record-again, vote-sayable}
-
-none-not-some : {A : Type 0} {B : Type 0} {a : A} → none ≡ some a → B
-none-not-some e = let z : _≡_ {A = ℕ} 0 1 = cc in absurd (omega arith)
 
 -- ---- written and read
 
@@ -141,10 +139,10 @@ module _ (n : ℕ) (nodes : n ≤ nodesMost) (s : List ℕ) where
     again-by vs l e (inl q) =
         let g : c .votes ≡ vs = let f = sym (all-read q) ∙ e in cc in
         subst (λ (us : List Vote). BytesOf n s us) g (record { bytes = all-bytes q; sayable = c .sayable; short = l })
-    again-by vs l e (inr q) = none-not-some (sym (none-read (q .0) (q .1)) ∙ e)
+    again-by vs l e (inr q) = not-some (sym (none-read (q .0) (q .1)) ∙ e)
 
     stuck-by : votesAfter n 0 s ≡ none → Ends n (c .rest) → OneUnreadable n s
-    stuck-by e (inl q) = none-not-some (sym e ∙ all-read q)
+    stuck-by e (inl q) = not-some (sym e ∙ all-read q)
     stuck-by e (inr q) =
         record { votes = c .votes; rest = c .rest; bytes = c .bytes; sayable = c .sayable; left = q .0; not-read = q .1 }
 
@@ -178,7 +176,7 @@ module _ (n : ℕ) (nodes : n ≤ nodesMost) (s : List ℕ) where
     whole-cut = cut (length s) n s (omega arith) t
 
     written-again : (vs : List Vote) → votesOf n s ≡ some vs → BytesOf n s vs
-    written-again vs e = ⊎-elim (λ l. again-by whole-cut vs (l .0) (sym (l .1) ∙ e) (whole-cut .ends)) (λ l. none-not-some (sym (l .1) ∙ e)) limit
+    written-again vs e = ⊎-elim (λ l. again-by whole-cut vs (l .0) (sym (l .1) ∙ e) (whole-cut .ends)) (λ l. not-some (sym (l .1) ∙ e)) limit
 
     heard : (o : Option (List Vote)) → votesOf n s ≡ o → silent o ≡ false → (vs : List Vote) × BytesOf n s vs
     heard none e h = absurd (clash refl h)

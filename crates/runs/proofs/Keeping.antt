@@ -6,22 +6,20 @@ use mathlib.Core.Bool.{Bool, true, false, not, _&&_}
 use mathlib.Core.List.{List, [], _∷_, map}
 use native.Mathlib.Omega.{arith}
 use borrow.Author.Tests.{leb-true, leb-false, ltb-true, eqb-true, not-true}
-use lib.Dec.{eqb, ltb, leb, lit<}
+use lib.Dec.{eqb, ltb, leb}
 use lib.ListN.{length, getD}
 use Rattle.laws.specs.Masks.{count, every}
 use Rattle.laws.specs.Members.{any, holds}
 use Rattle.laws.proofs.Tests.{both, neither}
 use Rattle.laws.proofs.Every.{every-each}
 use Rattle.rules.specs.Sizes.{sized, fits, isLog}
-use Rattle.entries.specs.Bytes.{AreBytes}
 use Rattle.wire.specs.Sizes.{lengthSize}
-use Rattle.wire.specs.Message.{votesAfter, votesOf}
 use Rattle.tray.specs.Trays.{entriesOf, soundTray, trayOf}
 use Rattle.tray.specs.declared.Tray.{Tray}
 use Rattle.agreement.specs.Hall.{Hall}
 use Rattle.agreement.specs.Granted.{Granted}
 use Rattle.agreement.specs.Rule.{breaksRule}
-use Rattle.agreement.proofs.Carried.{carried-granted}
+use Rattle.agreement.proofs.Carried.{Fine, silence-fine, silence-keeps, carried-granted}
 use Rattle.runs.specs.Schedule.{Send, Schedule, given, hallOf, breaks}
 
 -- none reaches m
@@ -39,10 +37,6 @@ below-at m (x ∷ xs) z h (suc i) = below-at m xs z (neither (leb m x) (any (λ 
 abbrev fine : List ℕ → Bool
 fine m = below (2 ^ 8) m && ltb (length m) (2 ^ (8 * lengthSize))
 
-pub record Fine (m : List ℕ) : Type 0 where
-  pub short : length m < 2 ^ (8 * lengthSize)
-  pub bytes : AreBytes m
-
 is-fine : (m : List ℕ) → fine m ≡ true → Fine m
 is-fine m h =
     let p = both (below (2 ^ 8) m) (ltb (length m) (2 ^ (8 * lengthSize))) h in
@@ -53,7 +47,7 @@ allFine [] = true
 allFine (x ∷ xs) = fine (x .message) && allFine xs
 
 given-fine : (lines : List Send) → allFine lines ≡ true → (r j i : ℕ) → Fine (given lines r j i)
-given-fine [] h r j i = record { short = omega arith; bytes = λ k. lit< tt }
+given-fine [] h r j i = silence-fine
 given-fine (x ∷ xs) h r j i = go (eqb r (x .round) && (eqb j (x .from) && eqb i (x .to))) refl (given-fine xs (p .1) r j i)
   where
     p : (fine (x .message) ≡ true) × (allFine xs ≡ true)
@@ -73,12 +67,8 @@ module _ (hall : Hall) where
   abbrev broken : List Send → List Bool
   broken lines = map (λ (x : Send). breaksRule hall (x .round) (x .message)) lines
 
-  silence-keeps : (r : ℕ) → breaksRule hall r [] ≡ false
-  unfolding breaksRule votesOf votesAfter
-  silence-keeps r = refl
-
   given-keeps : (lines : List Send) → none (broken lines) ≡ true → (r j i : ℕ) → breaksRule hall r (given lines r j i) ≡ false
-  given-keeps [] h r j i = silence-keeps r
+  given-keeps [] h r j i = silence-keeps hall r
   given-keeps (x ∷ xs) h r j i = go (eqb r (x .round) && (eqb j (x .from) && eqb i (x .to))) refl (given-keeps xs (p .1) r j i)
     where
       p : (not (breaksRule hall (x .round) (x .message)) ≡ true) × (none (broken xs) ≡ true)
@@ -119,8 +109,7 @@ module _ (s : Schedule) where
         trays = λ i c. every-each (λ j. soundTray (tray j)) (s .n) (t .trays) i (c .node);
         entries = λ i c.
             below-at (2 ^ 64) (entriesOf (tray i)) (omega arith) (not-true _ (every-each (λ j. below (2 ^ 64) (entriesOf (tray j))) (s .n) (t .entries) i (c .node)));
-        short = λ i j r c d b. given-fine (s .sends) (t .messages) r j i .short;
-        bytes = λ i j r c d b. given-fine (s .sends) (t .messages) r j i .bytes;
+        messages = λ i j r c d b. given-fine (s .sends) (t .messages) r j i;
       })
       (leb-true _ _ (t .few))
       refl

@@ -4,7 +4,7 @@ use mathlib.Core.Path.{_≡_}
 use mathlib.Core.Bool.{false}
 use mathlib.Core.List.{List, [], _∷_}
 use Rattle.wire.specs.Message.{messageBytes}
-use Rattle.log.specs.Fields.{entry}
+use Rattle.entries.specs.Fields.{entry}
 use Rattle.agreement.specs.Granted.{Granted}
 use Rattle.runs.specs.Schedule.{vote, Schedule, hallOf, breaks, Makes}
 

@@ -2,7 +2,7 @@
 use mathlib.Core.Path.{_≡_}
 use mathlib.Core.Bool.{true, false}
 use mathlib.Core.List.{[], _∷_}
-use Rattle.log.specs.Fields.{entry}
+use Rattle.entries.specs.Fields.{entry}
 use Rattle.runs.specs.Schedule.{vote, sending, Schedule, hallOf, breaks, Makes}
 use Rattle.runs.specs.Document.{schedule, twelve, printed}
 

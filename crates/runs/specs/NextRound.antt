@@ -5,7 +5,7 @@ use mathlib.Core.Path.{_≡_}
 use mathlib.Core.Bool.{true, false}
 use mathlib.Core.List.{List, [], _∷_}
 use Rattle.rules.specs.Vote.{Batch}
-use Rattle.log.specs.Fields.{entry}
+use Rattle.entries.specs.Fields.{entry}
 use Rattle.agreement.specs.Hall.{Hall}
 use Rattle.agreement.specs.Rule.{hasSent}
 use Rattle.runs.specs.Schedule.{vote, sending, Schedule, hallOf, breaks, Makes}

@@ -11,7 +11,7 @@ use Rattle.wire.specs.Sizes.{messageMost}
 use Rattle.wire.specs.Message.{messageBytes}
 use Rattle.wire.specs.Inbox.{messageOf, inboxBytes}
 use Rattle.tray.specs.Trays.{trayOf}
-use Rattle.log.specs.Fields.{entry}
+use Rattle.entries.specs.Fields.{entry}
 use Rattle.agreement.specs.Hall.{Hall, sends}
 use Rattle.runs.specs.Schedule.{vote, Send, sending, given, Makes}
 

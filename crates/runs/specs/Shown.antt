@@ -6,7 +6,7 @@ use mathlib.Core.Bool.{true, false}
 use mathlib.Core.List.{List, [], _∷_}
 use Rattle.rules.specs.Vote.{Batch}
 use Rattle.node.specs.State.{keptFor}
-use Rattle.log.specs.Fields.{entry}
+use Rattle.entries.specs.Fields.{entry}
 use Rattle.agreement.specs.Hall.{Hall, nodeAfter}
 use Rattle.agreement.specs.Granted.{Granted}
 use Rattle.agreement.specs.Rule.{hasSent}

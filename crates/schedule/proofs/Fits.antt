@@ -9,7 +9,7 @@ use borrow.Author.Tests.{le-leb, le-ltb, leb-true, lt-leb, lt-ltb, ltb-true, ne-
 use lib.Dec.{leb, ltb}
 use lib.ListN.{length}
 use Rattle.laws.proofs.Bits.{low-bits}
-use Rattle.laws.proofs.Tests.{both}
+use Rattle.laws.proofs.Tests.{both, zero-one}
 use Rattle.rules.specs.Sizes.{nodesMost}
 use Rattle.wire.specs.Sizes.{messageMost}
 use Rattle.text.specs.Hex.{hexOf}
@@ -71,7 +71,7 @@ line-yes l e = simp e
 -- ---- what a send that was read tells
 
 no-send : {r i j : ℕ} → Sent r i j ≡ NoSend → ⊥
-no-send e = let z : _≡_ {A = ℕ} 0 1 = cc in omega arith
+no-send e = zero-one cc
 
 -- the numbers read are small, and the send is they and its message
 pub record Told (l : List ℕ) (r i j : ℕ) : Type 0 where

@@ -1,5 +1,5 @@
 -- The header: what each line makes of it, and the lines one after the other.
-use Prim.Native.Nat.{_%_, _*_, _+_, _<_, _^_, _≤_, suc, zero, ℕ}
+use Prim.Native.Nat.{_*_, _+_, _<_, _≤_, suc, zero, ℕ}
 use mathlib.Core.Bool.{Bool, cond, false, true}
 use mathlib.Core.List.{List, [], _∷_}
 use mathlib.Core.Option.{Option, none, some}
@@ -10,10 +10,8 @@ use borrow.Author.Tests.{le-leb, le-ltb, leb-true, lt-leb, lt-ltb, ltb-true}
 use lib.Dec.{leb, ltb}
 use lib.ListN.{drop, drop-of-length-le, getD, length, take}
 use lib.Seq.{drop-cons, length-take-le}
-use mir.Val.{boolByte}
-use Rattle.laws.specs.Masks.{asBit, maskOf}
-use Rattle.laws.proofs.Bits.{mask-more, mask-within, shifted-bit}
-use Rattle.rules.specs.Sizes.{nodesMost, sized}
+use Rattle.laws.proofs.Tests.{zero-one}
+use Rattle.rules.specs.Sizes.{sized}
 use Rattle.text.specs.Lines.{listLine, numberLine}
 use Rattle.text.specs.Lists.{listedAs}
 use Rattle.text.specs.Numbers.{wordMost}
@@ -89,15 +87,6 @@ module _ (k : ℕ) (h : Header) (o : Option (List ℕ)) (L : Listed) (e : L ≡ 
         ap (withFaulty k h) (listed-some o L e g)
         ∙ simp (le-leb _ _ b) (ap (λ (y : ℕ). Read (record { n = h .n; f = h .f; faulty = y })) (sym q))
 
--- ---- the mask of the nodes in a list, one node more
-
-module _ (t : ℕ → Bool) (j mask : ℕ) (b : Bool) (h : j < nodesMost) (m : mask ≡ maskOf t j) (e : b ≡ t j) where
-  pub mask-turn : mask + (boolByte b * 2 ^ j) % 2 ^ nodesMost ≡ maskOf t (j + 1)
-  mask-turn = ap₂ (λ (x y : ℕ). x + y) m (shifted-bit b j nodesMost h ∙ ap (λ (u : Bool). asBit u * 2 ^ j) e) ∙ mask-more t j
-
-  pub mask-fits : mask + (boolByte b * 2 ^ j) % 2 ^ nodesMost < 2 ^ nodesMost
-  mask-fits = let up : j + 1 ≤ nodesMost = omega arith in omega (arith, mask-turn, mask-within t (j + 1) nodesMost up)
-
 -- ---- one line after the other
 
 then-bad : (x : Headed) (k : ℕ) (g : Header → Headed) → x ≡ BadAt k → andThen x g ≡ BadAt k
@@ -136,7 +125,7 @@ read-is : {a b : Header} → Read a ≡ Read b → a ≡ b
 read-is e = cc
 
 bad-read : {k : ℕ} {h : Header} → BadAt k ≡ Read h → ⊥
-bad-read e = let z : _≡_ {A = ℕ} 0 1 = cc in omega arith
+bad-read e = zero-one cc
 
 then-told : (x : Headed) (g : Header → Headed) (z : Header) → andThen x g ≡ Read z → (h : Header) × (x ≡ Read h) × (g h ≡ Read z)
 unfolding andThen

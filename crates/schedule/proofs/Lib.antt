@@ -1,4 +1,5 @@
 pub mod Heads
 pub mod Fits
+pub mod Order
 pub mod Turns
 pub mod Examples

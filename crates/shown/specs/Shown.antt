@@ -6,20 +6,16 @@ use mathlib.Core.List.{List, []}
 use lib.Dec.{eqb, leb, ltb}
 use lib.ListN.{length, getD}
 use Rattle.laws.specs.Masks.{bit, every}
-use Rattle.laws.specs.Members.{same, those}
+use Rattle.laws.specs.Members.{those}
 use Rattle.rules.specs.Sizes.{sized}
 use Rattle.rules.specs.Vote.{Vote}
 use Rattle.wire.specs.Message.{votesOf}
-use Rattle.node.specs.Batches.{batchOf}
+use Rattle.node.specs.Batches.{batchOf, sameBatch}
 use Rattle.node.specs.State.{keptAt}
 use Rattle.node.specs.declared.Batch.{Batch}
 use Rattle.node.specs.declared.Kept.{Kept}
 use Rattle.node.specs.declared.Node.{Node}
 use Rattle.round.specs.Found.{votesIn}
-
--- two batches are equal, place by place
-abbrev pub sameBatch : Batch → Batch → Bool
-sameBatch a b = eqb (a .count) (b .count) && same (a .entries) (b .entries)
 
 -- the batch is one of those kept
 abbrev pub keptHolds : Kept → Batch → Bool

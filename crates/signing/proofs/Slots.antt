@@ -1,17 +1,13 @@
 -- What a slot says goes by its first byte, and who is a signer by the number first and by the slot after.
-use Prim.Native.Nat.{ℕ, _+_, _*_, _-_, _%_, _^_, _≤_, _<_}
-use mathlib.Core.Path.{_≡_, sym, ap, ap₂, _∙_}
+use Prim.Native.Nat.{ℕ, _+_, _*_, _-_}
+use mathlib.Core.Path.{_≡_, sym, ap, ap₂}
 use mathlib.Core.Logic.{_≢_}
-use mathlib.Core.Bool.{Bool, true, false}
+use mathlib.Core.Bool.{true, false}
 use mathlib.Core.List.{List}
 use native.Mathlib.Omega.{arith}
 use borrow.Author.Tests.{eq-eqb, ne-eqb}
-use mir.Val.{boolByte}
 use lib.ListN.{length, getD, take, drop}
-use Rattle.laws.specs.Masks.{asBit, maskOf}
 use Rattle.laws.specs.Members.{same}
-use Rattle.laws.proofs.Bits.{mask-more, mask-within, shifted-bit}
-use Rattle.rules.specs.Sizes.{nodesMost}
 use Rattle.rules.specs.Signers.{Mark, speaks, signer}
 use Rattle.signing.specs.Slots.{markSize, slotSize, speaking, slotIn, slotOf}
 
@@ -38,15 +34,3 @@ module _ (me : ℕ) (mark : Mark) (slots : List ℕ) (j : ℕ) where
   other-signs start end h s e =
       let k : slotSize ≡ end - start = omega arith in
       simp (ne-eqb j me h) (ap₂ (λ (x y : ℕ). speaks mark (slotIn (take x (drop y slots)))) k (sym s))
-
-  -- one turn: its bit joins the mask of those before it
-  module _ (mask : ℕ) (b : Bool) (h : j < nodesMost) (m : mask ≡ maskOf (signer me mark (slotOf slots)) j) (s : b ≡ signer me mark (slotOf slots) j) where
-    pub one-more : mask + (boolByte b * 2 ^ j) % 2 ^ nodesMost ≡ maskOf (signer me mark (slotOf slots)) (j + 1)
-    one-more =
-        ap₂ (λ (x y : ℕ). x + y) m (shifted-bit b j nodesMost h ∙ ap (λ (t : Bool). asBit t * 2 ^ j) s)
-        ∙ mask-more (signer me mark (slotOf slots)) j
-
-    pub mask-fits : mask + (boolByte b * 2 ^ j) % 2 ^ nodesMost < 2 ^ nodesMost
-    mask-fits =
-        let up : j + 1 ≤ nodesMost = omega arith in
-        omega (arith, one-more, mask-within (signer me mark (slotOf slots)) (j + 1) nodesMost up)

@@ -8,6 +8,7 @@ use native.Mathlib.Nat.{le-refl, le-trans, le-suc}
 use native.Mathlib.Omega.{arith}
 use lib.Dec.{lit<}
 use lib.ListN.{length}
+use Rattle.node.proofs.Sound.{sound-sizes}
 use Rattle.rules.specs.Sizes.{sizes}
 use Rattle.rules.specs.Refusals.{ifDone}
 use Rattle.rules.specs.Vote.{Vote}
@@ -25,7 +26,7 @@ use Rattle.node.proofs.Openings.{opening-sayable}
 use Rattle.step.specs.Step.{passedBy, steppedNode, stepNumber}
 use Rattle.step.specs.Course.{made, after, outbox}
 use Rattle.step.proofs.PassedVotes.{passed-by-sayable}
-use Rattle.step.proofs.Steps.{step-found, numbers}
+use Rattle.step.proofs.Steps.{step-found}
 use Rattle.step.proofs.StaySound.{stepped-is-sound}
 
 module _ (s : Node) (h : soundNode s ≡ true) where
@@ -59,7 +60,7 @@ module _ (n f me : ℕ) (tray : Tray) (inbox : ℕ → List ℕ) (room : ℕ →
   opening-bytes : (k : ℕ) → openNumber (made n f me) tray (room 1) ≡ k → AreBytes (ifDone k (recordBytes (openingVote (made n f me) tray)) [])
   opening-bytes zero e =
       let c = open-found (made n f me) tray (room 1) e in
-      record-bytes (made n f me .n) (numbers (made n f me) [] made-sound .most) (openingVote (made n f me) tray)
+      record-bytes (made n f me .n) (sound-sizes (made n f me) made-sound .most) (openingVote (made n f me) tray)
       (opening-sayable (made n f me) tray [] made-sound (c .fine))
   opening-bytes (suc k) e = λ i. lit< tt
 
@@ -76,7 +77,7 @@ module _ (n f me : ℕ) (tray : Tray) (inbox : ℕ → List ℕ) (room : ℕ →
 
     passed-bytes : (k : ℕ) → AreBytes (ifDone k (messageBytes passed) [])
     passed-bytes zero =
-        let t = numbers s (inbox (suc r)) (course-sound r) in
+        let t = sound-sizes s (course-sound r) in
         votes-bytes (s .n) (t .most) passed (passed-by-sayable s (inbox (suc r)) (t .node))
     passed-bytes (suc k) = λ i. lit< tt
 

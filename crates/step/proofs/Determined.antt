@@ -7,6 +7,7 @@ use mathlib.Core.List.{List}
 use native.Mathlib.Omega.{arith}
 use borrow.Author.Tests.{le-leb}
 use lib.ListN.{length}
+use Rattle.node.proofs.Sound.{sound-sizes}
 use Rattle.rules.specs.Step.{keptMost}
 use Rattle.wire.specs.Sizes.{recordMost}
 use Rattle.wire.specs.Message.{messageBytes}
@@ -16,7 +17,6 @@ use Rattle.node.specs.declared.Node.{Node}
 use Rattle.step.specs.Step.{passedBy, inRounds, stepNumber, Step}
 use Rattle.step.specs.declared.Stepped.{Stepped}
 use Rattle.step.proofs.PassedVotes.{passed-by-most}
-use Rattle.step.proofs.Steps.{numbers}
 
 pub step-determined : (s : Node) (inbox outbox : List ℕ) (a b : Stepped) (o u : List ℕ) → Step s inbox outbox a o → Step s inbox outbox b u → (a ≡ b) × (o ≡ u)
 step-determined s inbox outbox a b o u p q =
@@ -32,7 +32,7 @@ never-9 s inbox room h e = go (soundNode s) refl (inRounds s) refl (wellCut (s .
   where
     go : (a : Bool) → soundNode s ≡ a → (b : Bool) → inRounds s ≡ b → (c : Bool) → wellCut (s .n) inbox ≡ c → ⊥
     go true p true q true r =
-        let l = le-leb (length (messageBytes (passedBy s inbox))) room (omega (arith, passed-by-most s inbox (numbers s inbox p .node))) in
+        let l = le-leb (length (messageBytes (passedBy s inbox))) room (omega (arith, passed-by-most s inbox (sound-sizes s p .node))) in
         let z : _≡_ {A = ℕ} 0 9 = simp (p, q, r, l) at e in
         omega arith
     go true p true q false r = let z : _≡_ {A = ℕ} 4 9 = simp (p, q, r) at e in omega arith

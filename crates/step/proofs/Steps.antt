@@ -22,7 +22,6 @@ use Rattle.rules.proofs.Newly.{newly-few}
 use Rattle.rules.proofs.Inbox.{gather-same}
 use Rattle.rules.proofs.Gathered.{each-at}
 use Rattle.rules.proofs.Refusals.{row-passed}
-use Rattle.rules.proofs.Sizes.{Sized, sizes-told}
 use Rattle.wire.specs.Message.{messageBytes}
 use Rattle.wire.specs.Inbox.{wellCut, unreadableSenders, inboxNumber, ReadInbox}
 use Rattle.wire.specs.declared.Heard.{Heard}
@@ -30,7 +29,7 @@ use Rattle.node.specs.Batches.{keptAs}
 use Rattle.node.specs.State.{keptAt, keptFor, soundNode}
 use Rattle.node.specs.declared.Kept.{Kept}
 use Rattle.node.specs.declared.Node.{Node}
-use Rattle.node.proofs.Sound.{sound-told, sound-right, sound-is-of}
+use Rattle.node.proofs.Sound.{sound-right, sound-is-of, sound-sizes}
 use Rattle.round.specs.Found.{foundFor, foundBy, Begin, TakeInbox}
 use Rattle.round.specs.declared.Found.{Found}
 use Rattle.step.specs.Passing.{AllHeld, EachHeld, foundAt, keptIn, passedFor, passedBelow, primariesIn, AllSayable}
@@ -165,16 +164,13 @@ pub record Passes (s : Node) (inbox : List ℕ) (found : List Found) (m : ℕ) :
   pub sayable : AllSayable (s .n) (passedBelow (s .me) (s .kept) found m)
 
 module _ (s : Node) (inbox : List ℕ) (h : soundNode s ≡ true) where
-  pub numbers : Sized (s .n) (s .f) (s .me)
-  numbers = sizes-told (s .n) (s .f) (s .me) (sound-told s h .numbers)
-
   kept-is : s .kept ≡ gather (λ (p : ℕ). keptAs (keptFor s p) ∷ []) nodesMost
   kept-is = ap (λ (x : Node). x .kept) (sound-is-of s h)
 
   -- the inbox is well cut exactly when the reader does not refuse it
   cut-number : inboxNumber (s .n) (s .me) inbox ≡ (refuse 4 unless wellCut (s .n) inbox then done)
   unfolding inboxNumber
-  cut-number = simp (numbers .nodes, lt-ltb _ _ (numbers .node))
+  cut-number = simp (sound-sizes s h .nodes, lt-ltb _ _ (sound-sizes s h .node))
 
   module _ (heard : Heard) (t : ReadInbox (s .n) (s .me) inbox heard) where
     pub cut-ill : heard .number ≢ 0 → wellCut (s .n) inbox ≡ false
@@ -194,7 +190,7 @@ module _ (s : Node) (inbox : List ℕ) (h : soundNode s ≡ true) where
   module _ (begun found : List Found) (u : ℕ) (w : wellCut (s .n) inbox ≡ true) (e : u ≡ unreadableSenders (s .n) (s .me) inbox) (b : Begin (s .kept) begun)
       (t : TakeInbox (s .n) (s .me) (s .phase) begun inbox u found) where
     pub found-is : found ≡ foundBy (s .phase) (keptFor s) (takenBy s inbox)
-    found-is = t .cut (numbers .nodes) w e .takes (keptFor s) [] (b .begins (s .phase) (keptFor s) kept-is)
+    found-is = t .cut (sound-sizes s h .nodes) w e .takes (keptFor s) [] (b .begins (s .phase) (keptFor s) kept-is)
 
     found-at : (p : ℕ) → p < nodesMost → foundAt found p ≡ foundFor (keptFor s p) (newFor s inbox p)
     found-at p l = ap (λ (x : List Found). foundAt x p) found-is ∙ each-at (λ (q : ℕ). foundFor (keptFor s q) (newFor s inbox q)) _ nodesMost p l
@@ -216,7 +212,7 @@ module _ (s : Node) (inbox : List ℕ) (h : soundNode s ≡ true) where
 
     pub passes : (m : ℕ) → m ≡ primariesIn (s .n) (s .f) (s .phase) → Passes s inbox found m
     passes m e =
-        let most : m ≤ nodesMost = omega (arith, primaries-most (s .n) (s .f) (s .phase), numbers .most) in
+        let most : m ≤ nodesMost = omega (arith, primaries-most (s .n) (s .f) (s .phase), sound-sizes s h .most) in
         let says : passedBelow (s .me) (s .kept) found m ≡ passedBy s inbox =
         gather-same (λ (p : ℕ). passedFor (s .me) p (keptAt (s .kept) p .count) (foundAt found p)) (λ (p : ℕ). map (passedOn (s .me)) (newFor s inbox p)) m
         (λ p l. passed-at p (omega arith))
@@ -227,7 +223,7 @@ module _ (s : Node) (inbox : List ℕ) (h : soundNode s ≡ true) where
           held = each-held;
           says = says;
           size = ap (λ (vs : List Vote). length (messageBytes vs)) says;
-          sayable = subst (AllSayable (s .n)) (sym says) (passed-by-sayable s inbox (numbers .node));
+          sayable = subst (AllSayable (s .n)) (sym says) (passed-by-sayable s inbox (sound-sizes s h .node));
         }
 
     pub next-node : (kept : List Kept) → kept ≡ keptIn found

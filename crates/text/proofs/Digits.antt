@@ -7,6 +7,7 @@ use native.Mathlib.Omega.{arith}
 use borrow.Author.Tests.{le-leb, le-ltb, leb-true, lt-leb, lt-ltb}
 use lib.Dec.{eqb, leb, ltb}
 use lib.ListN.{drop, drop-of-length-le, getD, length, take}
+use Rattle.laws.proofs.Tests.{zero-one}
 use Rattle.text.specs.Numbers.{decimal, digitOf, digitsBelow, entryAs, entryIn, fieldOf, halfMost, leadingZero, numberOf, valueFrom, wordMost}
 use Rattle.text.specs.Places.{dot, past, placeOf, upTo}
 use Rattle.text.specs.declared.Number.{Number}
@@ -15,7 +16,7 @@ use Rattle.text.proofs.Scan.{next}
 
 -- no value is read where there is no number
 pub no-value : {v : ℕ} → Value v ≡ NoNumber → ⊥
-no-value e = let z : _≡_ {A = ℕ} 0 1 = cc in omega arith
+no-value e = zero-one cc
 
 pub value-is : {v w : ℕ} → Value v ≡ Value w → v ≡ w
 value-is e = cc

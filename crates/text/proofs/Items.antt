@@ -10,6 +10,7 @@ use borrow.Author.Tests.{ltb-true}
 use lib.Dec.{eqb, ltb}
 use lib.ListN.{length}
 use Rattle.laws.specs.Members.{In}
+use Rattle.laws.proofs.Tests.{zero-one}
 use Rattle.rules.specs.Sizes.{isBatch}
 use Rattle.text.specs.Lines.{keyed, listLine, valueOf}
 use Rattle.text.specs.Lists.{andItem, belowAs, checked, itemOf, itemsOf, listOf, split}
@@ -22,7 +23,7 @@ use Rattle.text.specs.declared.Number.the-variants.{NoNumber, Value}
 use Rattle.text.proofs.Digits.{entry-small, no-value, value-is}
 
 none-some : {xs : List ℕ} → none ≡ some xs → ⊥
-none-some e = let z : _≡_ {A = ℕ} 0 1 = cc in omega arith
+none-some e = zero-one cc
 
 some-is : {xs ys : List ℕ} → some xs ≡ some ys → xs ≡ ys
 some-is e = cc

@@ -1,9 +1,10 @@
 -- "Numbers are decimal without leading zeros"; entries are written "as meter.interval.watthours".
-use Prim.Native.Nat.{ℕ, _+_, _*_, _-_, _^_}
+use Prim.Native.Nat.{ℕ, _+_, _*_, _-_}
 use mathlib.Core.Bool.{Bool, true, _&&_, not, cond}
 use mathlib.Core.List.{List, [], _∷_}
 use lib.Dec.{ltb, leb, eqb}
 use lib.ListN.{length, getD}
+use Rattle.entries.specs.Fields.{entry}
 use Rattle.text.specs.Places.{dot, placeOf, upTo, past}
 use Rattle.text.specs.declared.Number.{Number}
 use Rattle.text.specs.declared.Number.the-variants.{Value, NoNumber}
@@ -45,9 +46,9 @@ halfMost = 65535
 abbrev pub wordMost : ℕ
 wordMost = 4294967295
 
--- meter (16 high bits), interval (16), watt-hours (32 low bits)
+-- the entry of these fields
 unfoldable pub entryAs : Number → Number → Number → Number
-entryAs (Value m) (Value i) (Value w) = Value (m * 2 ^ 48 + i * 2 ^ 32 + w)
+entryAs (Value m) (Value i) (Value w) = Value (entry m i w)
 entryAs (Value m) (Value i) NoNumber = NoNumber
 entryAs (Value m) NoNumber w = NoNumber
 entryAs NoNumber i w = NoNumber

@@ -12,7 +12,8 @@ use borrow.Author.Tests.{le-leb, lt-leb, leb-true, leb-false, lt-ltb, le-ltb, eq
 use lib.Dec.{leb}
 use lib.ListN.{length, getD, take, drop}
 use Rattle.laws.specs.Masks.{asBit, maskOf}
-use Rattle.laws.proofs.Bits.{mask-more, mask-within, one-shifted}
+use Rattle.laws.proofs.Tests.{zero-one}
+use Rattle.laws.proofs.Bits.{mask-turn, mask-fits, one-shifted}
 use Rattle.rules.specs.Sizes.{nodesMost, sized}
 use Rattle.rules.specs.Refusals.{refuse_unless_then_, done, ifDone}
 use Rattle.wire.specs.Sizes.{lengthSize}
@@ -44,7 +45,7 @@ told-by : (s : List ℕ) (at start end : ℕ) (t : Bool) → leb (endAt s at) (l
 told-by s at start end true u e =
     let q : _≡_ {A = Span} (record { start = start; end = end }) (record { start = at + lengthSize; end = endAt s at }) = cc in
     record { fits = leb-true _ _ u; start-is = ap (λ (p : Span). p .start) q; end-is = ap (λ (p : Span). p .end) q }
-told-by s at start end false u e = let z : _≡_ {A = ℕ} 0 1 = cc in absurd (omega arith)
+told-by s at start end false u e = zero-one cc
 
 pub message-told : (s : List ℕ) (at start end : ℕ) → MessageAt s at (Message start end) → Told s at start end
 message-told s at start end r = told-by s at start end (leb (endAt s at) (length s)) refl (r .values)
@@ -88,15 +89,14 @@ module _ (n me : ℕ) (s : List ℕ) where
 
   module _ (j at start end mask bit : ℕ) (told : Told s at start end) (e : at ≡ placeOf s j) (m : mask ≡ maskOf unreadableFrom j)
       (b : bit ≡ asBit (isUnreadable n me j (take (end - start) (drop start s))) * 2 ^ j) where
-    pub mask-turn : mask + bit ≡ maskOf unreadableFrom (j + 1)
-    mask-turn =
-        ap₂ (λ (x y : ℕ). x + y) m (b ∙ ap (λ (u : List ℕ). asBit (isUnreadable n me j u) * 2 ^ j) (own-place s j at start end told e))
-        ∙ mask-more unreadableFrom j
+    its-bit : bit ≡ asBit (unreadableFrom j) * 2 ^ j
+    its-bit = b ∙ ap (λ (u : List ℕ). asBit (isUnreadable n me j u) * 2 ^ j) (own-place s j at start end told e)
 
-    pub mask-fits : j < nodesMost → mask + bit < 2 ^ nodesMost
-    mask-fits h =
-        let up : j + 1 ≤ nodesMost = omega arith in
-        omega (arith, mask-turn, mask-within unreadableFrom (j + 1) nodesMost up)
+    pub sender-joins : mask + bit ≡ maskOf unreadableFrom (j + 1)
+    sender-joins = mask-turn nodesMost unreadableFrom j mask bit m its-bit
+
+    pub still-fits : j < nodesMost → mask + bit < 2 ^ nodesMost
+    still-fits = mask-fits nodesMost unreadableFrom j mask bit m its-bit
 
 pub bit-none : (t : Bool) (j : ℕ) → t ≡ false → 0 ≡ asBit t * 2 ^ j
 bit-none t j e = sym (ap (λ (x : Bool). asBit x * 2 ^ j) e ∙ zero-mul (2 ^ j))

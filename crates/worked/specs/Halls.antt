@@ -8,7 +8,7 @@ use Rattle.node.specs.declared.Made.{Made}
 use Rattle.node.specs.declared.Node.{Node}
 use Rattle.node.specs.declared.Opened.{Opened}
 use Rattle.step.specs.declared.Stepped.{Stepped}
-use Rattle.log.specs.Fields.{entry}
+use Rattle.entries.specs.Fields.{entry}
 use Rattle.closing.specs.declared.Closed.{Closed}
 
 -- ---- answers of calls that are done

@@ -10,7 +10,7 @@ use Rattle.wire.specs.declared.Record.the-variants.{Vote, Unreadable}
 use Rattle.wire.specs.declared.Message.the-variants.{Votes, Unreadable as UnreadableMessage}
 use Rattle.tray.specs.Trays.{trayOf}
 use Rattle.node.specs.State.{fresh}
-use Rattle.log.specs.Fields.{entry}
+use Rattle.entries.specs.Fields.{entry}
 use Rattle.signing.specs.Slots.{slotSize}
 use Rattle.worked.specs.Test.{Test, reads, hears, makes, opens, steps, closes, counts}
 use Rattle.worked.specs.Halls.{made, opened, stepped, closed, alone, own, keeping, from0, silence}

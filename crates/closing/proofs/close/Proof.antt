@@ -3,8 +3,7 @@ use mathlib.Core.Path.{sym, _∙_}
 use native.Mathlib.Omega.{arith}
 use denote.Ref.{now}
 use borrow.Author.Tests.{not-true, not-false}
-use Rattle.rules.proofs.Sizes.{sizes-told}
-use Rattle.node.proofs.Sound.{sound-told}
+use Rattle.node.proofs.Sound.{sound-sizes}
 use Rattle.closing.proofs.Answers.{gathered-most, gathered-length, mergeable, unsound-state, too-soon, no-log, exceeds, too-short, closes}
 use borrow.Author.Needs.{needs}
 use Rattle.closing.proofs.close.Statement.{statement}
@@ -25,7 +24,7 @@ add-if2 : tie.Need-add-if2
 add-if2 c =
     let s = c .before .before .before .before .before .args .node in
     let sound = sym (c .before .before .is-sound .ensures) ∙ not-false _ (c .before .if1 .left) in
-    let z = sizes-told (s .n) (s .f) (s .me) (sound-told s sound .numbers) in
+    let z = sound-sizes s sound in
     omega (arith, z .most, z .half)
 
 refused-requires-2 : tie.Need-refused-requires-2

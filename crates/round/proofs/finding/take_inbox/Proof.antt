@@ -1,12 +1,13 @@
 -- Before each sender the votes of those below it are taken up, and its message stands at the place reached. Before each record: what takes up the votes
 -- that are left takes up all. A record's vote changes what is found for its primary, if it is wanted and its batch is new.
 use Prim.Native.Nat.{_+_, _-_, _≤_, _<_}
-use mathlib.Core.Path.{_≡_, refl, sym, ap, subst, _∙_}
+use mathlib.Core.Path.{_≡_, refl, sym, subst, _∙_}
 use mathlib.Core.Logic.{⊎-elim}
 use mathlib.Core.List.{List, [], _∷_}
 use native.Mathlib.Omega.{arith}
 use denote.Ref.{now}
 use lib.ListN.{length, take, drop}
+use Rattle.node.proofs.Lists.{batch-read}
 use Rattle.laws.proofs.Lent.{rest-of}
 use Rattle.rules.specs.Vote.{Vote}
 use Rattle.rules.specs.Step.{others}
@@ -16,12 +17,12 @@ use Rattle.wire.specs.Reader.{ReadRecord}
 use Rattle.wire.specs.Inbox.{placeOf, MessageAt}
 use Rattle.wire.proofs.Readings.{Told as Record, vote-told, unreadable-told, refused-told, readable-whole}
 use Rattle.wire.proofs.Cuts.{Told, message-told, missing-told, next-place}
-use Rattle.node.specs.Batches.{batchOf as batchHeld}
 use Rattle.round.specs.Found.{Take}
 use Rattle.round.specs.declared.Found.{Found}
 use Rattle.round.proofs.Keeps.{keep-none}
 use Rattle.round.proofs.Takes.{vote-left, vote-kept, vote-held}
-use Rattle.round.proofs.Messages.{ends-within, few-bytes, its-batch, Reached, at-start as message-start, next-vote, no-vote, no-nodes, at-end as message-end}
+use Rattle.wire.proofs.Messages.{ends-within}
+use Rattle.round.proofs.Messages.{Reached, at-start as message-start, next-vote, no-vote, no-nodes, at-end as message-end}
 use Rattle.round.proofs.Inboxes.{Passed, at-start, is-passed, is-taken, no-message, at-end}
 use borrow.Author.Needs.{needs}
 use Rattle.round.proofs.finding.take_inbox.Statement.{statement}
@@ -87,11 +88,11 @@ taken-up c =
     let told-so = vote (c .before .before) in
     ⊎-elim
     (λ w.
-    let b = w .2 .ensures ∙ ap batchHeld (its-batch (a .n) s _ _ _ _ _ told-so (rw rest-of at (w .1 .ensures))) in
+    let b = w .2 .ensures ∙ batch-read (a .n) s _ _ _ _ _ told-so (rw rest-of at (w .1 .ensures)) in
     vote-kept (a .me) (a .round) (l .after) _ v h (c .if2 .after) _ wants (w .0 .taken) (w .2 .result) (w .6 .result) b (w .6 .ensures) (w .7))
     (⊎-elim
     (λ w.
-    let b = w .2 .ensures ∙ ap batchHeld (its-batch (a .n) s _ _ _ _ _ told-so (rw rest-of at (w .1 .ensures))) in
+    let b = w .2 .ensures ∙ batch-read (a .n) s _ _ _ _ _ told-so (rw rest-of at (w .1 .ensures)) in
     vote-held (a .me) (a .round) (l .after) _ v h (c .if2 .after) _ wants (w .0 .taken) (w .2 .result) b (keep-none _ _ _ (sym (w .4 .ensures) ∙ w .5 .left)) (w .6))
     (λ w. vote-left (a .me) (a .round) (l .after) _ v h (c .if2 .after) _ wants (w .0 .left) (w .1)))
     (c .if2 .came)
@@ -180,12 +181,7 @@ batch-bytes-requires : tie.Need-batch-bytes-requires Inv-loop2 μ-loop2 Inv-loop
 batch-bytes-requires c κs = search needs
 
 batch-from-requires : tie.Need-batch-from-requires Inv-loop2 μ-loop2 Inv-loop μ-loop
-batch-from-requires c κs =
-    let a = c .before .before .before .before .before .before .before .before .before .before .before .before .before .before .before .before .before .before .before .before .args in
-    let q = c .before .before .before .before .before .before .before .before .before .before .before .before .before .before .start .given .0 in
-    let m = take (q .1 .0 - q .0) (drop (q .0) (now (a .inbox))) in
-    let l = c .before .before .before .before .before .before .before .before .before .loop2 in
-    few-bytes (a .n) (drop (l .place) m) _ _ _ _ _ (vote (c .before .before .before)) (rw rest-of at (c .batch-bytes .ensures))
+batch-from-requires c κs = search needs
 
 mul-its : tie.Need-mul-its Inv-loop2 μ-loop2 Inv-loop μ-loop
 mul-its c = let h = low (c .before .before .before .before) in omega arith

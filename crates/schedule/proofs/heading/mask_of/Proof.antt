@@ -6,8 +6,8 @@ use denote.Ref.{now}
 use borrow.Author.Needs.{needs}
 use Rattle.laws.specs.Masks.{maskOf}
 use Rattle.laws.specs.Members.{holds}
+use Rattle.laws.proofs.Bits.{shifted-bit, mask-turn, mask-fits}
 use Rattle.rules.specs.Sizes.{nodesMost}
-use Rattle.schedule.proofs.Heads.{mask-fits, mask-turn}
 use Rattle.schedule.proofs.heading.mask_of.Statement.{statement}
 use Rattle.schedule.proofs.heading.mask_of.Tie as tie
 
@@ -37,11 +37,8 @@ add-mask : tie.Need-add-mask Inv-loop μ-loop
 add-mask c =
     let a = c .before .before .before .before .args in
     let l = c .before .before .loop in
-    omega (
-      arith,
-      mask-fits (λ (j : ℕ). holds j (now (a .nodes))) (l .node) (l .mask) (c .is-listed .result) (c .before .loop-test .taken)
-          (l .inv .1) (c .is-listed .ensures),
-    )
+    let bit = shifted-bit _ _ (l .node) nodesMost (c .before .loop-test .taken) (c .is-listed .ensures) in
+    omega (arith, mask-fits nodesMost (λ (j : ℕ). holds j (now (a .nodes))) (l .node) (l .mask) _ (l .inv .1) bit (c .before .loop-test .taken))
 
 add-node : tie.Need-add-node Inv-loop μ-loop
 add-node c = search needs
@@ -52,11 +49,9 @@ loop-less c = search needs
 loop-again : tie.Need-loop-again Inv-loop μ-loop
 loop-again c =
     let a = c .before .before .before .before .args in
-    let l = c .before .before .loop in (
-      omega arith,
-      mask-turn (λ (j : ℕ). holds j (now (a .nodes))) (l .node) (l .mask) (c .is-listed .result) (c .before .loop-test .taken)
-          (l .inv .1) (c .is-listed .ensures),
-    )
+    let l = c .before .before .loop in
+    let bit = shifted-bit _ _ (l .node) nodesMost (c .before .loop-test .taken) (c .is-listed .ensures) in
+    (omega arith, mask-turn nodesMost (λ (j : ℕ). holds j (now (a .nodes))) (l .node) (l .mask) _ (l .inv .1) bit)
 
 returns : tie.Need-returns Inv-loop μ-loop
 returns c =

@@ -4,10 +4,10 @@ use mathlib.Core.Path.{_≡_, refl, ap, _∙_}
 use native.Mathlib.Omega.{arith}
 use denote.Ref.{now}
 use Rattle.laws.specs.Masks.{maskOf}
+use Rattle.laws.proofs.Bits.{shifted-bit, mask-turn, mask-fits}
 use Rattle.rules.specs.Sizes.{nodesMost}
 use Rattle.rules.specs.Signers.{signer, signersOf}
 use Rattle.signing.specs.Slots.{slotOf}
-use Rattle.signing.proofs.Slots.{one-more, mask-fits}
 use borrow.Author.Needs.{needs}
 use Rattle.signing.proofs.count.signers_mask.Statement.{statement}
 use Rattle.signing.proofs.count.signers_mask.Tie as tie
@@ -39,7 +39,8 @@ add-mask c =
     let s = c .before .before .before .before in
     let l = c .before .before .loop in
     let most : l .j < nodesMost = omega (arith, s .pre .0) in
-    omega (arith, mask-fits (s .args .me) (now (s .args .mark)) (now (s .args .slots)) (l .j) (l .mask) (c .is-signer .result) most (l .inv .1) (c .is-signer .ensures))
+    let bit = shifted-bit _ _ (l .j) nodesMost most (c .is-signer .ensures) in
+    omega (arith, mask-fits nodesMost (signer (s .args .me) (now (s .args .mark)) (slotOf (now (s .args .slots)))) (l .j) (l .mask) _ (l .inv .1) bit most)
 
 add-j : tie.Need-add-j Inv-loop μ-loop
 add-j c = search needs
@@ -52,7 +53,8 @@ loop-again c =
     let s = c .before .before .before .before in
     let l = c .before .before .loop in
     let most : l .j < nodesMost = omega (arith, s .pre .0) in
-    (omega arith, one-more (s .args .me) (now (s .args .mark)) (now (s .args .slots)) (l .j) (l .mask) (c .is-signer .result) most (l .inv .1) (c .is-signer .ensures))
+    let bit = shifted-bit _ _ (l .j) nodesMost most (c .is-signer .ensures) in
+    (omega arith, mask-turn nodesMost (signer (s .args .me) (now (s .args .mark)) (slotOf (now (s .args .slots)))) (l .j) (l .mask) _ (l .inv .1) bit)
 
 returns : tie.Need-returns Inv-loop μ-loop
 unfolding signersOf

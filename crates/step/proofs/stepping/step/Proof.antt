@@ -4,9 +4,10 @@ use native.Mathlib.Omega.{arith}
 use borrow.Author.Needs.{needs}
 use borrow.Author.Tests.{not-true, not-false}
 use denote.Ref.{now}
+use Rattle.node.proofs.Sound.{sound-sizes}
 use Rattle.step.specs.Step.{Step}
 use Rattle.step.specs.declared.Stepped.{Stepped}
-use Rattle.step.proofs.Steps.{numbers, in-rounds, before-rounds, after-rounds, unsound, out-of-rounds, step-length, ill-cut, cut-ill, cut-well}
+use Rattle.step.proofs.Steps.{in-rounds, before-rounds, after-rounds, unsound, out-of-rounds, step-length, ill-cut, cut-ill, cut-well}
 use Rattle.step.proofs.stepping.step.Statement.{statement}
 use Rattle.step.proofs.stepping.step.Tie as tie
 
@@ -35,7 +36,7 @@ returns-2 c =
 add-if3 : tie.Need-add-if3
 add-if3 c =
     let a = c .before .before .before .before .before .before .args in
-    let t = numbers (a .node) (now (a .inbox)) (sym (c .before .before .before .is-sound .ensures) ∙ not-false _ (c .before .before .if1 .left)) in
+    let t = sound-sizes (a .node) (sym (c .before .before .before .is-sound .ensures) ∙ not-false _ (c .before .before .if1 .left)) in
     record { fits = omega (arith, t .half, t .most) }
 
 refused-requires-3 : tie.Need-refused-requires-3

@@ -7,13 +7,14 @@ use borrow.Author.Needs.{needs}
 use denote.Ref.{now}
 use lib.ListN.{length}
 use Rattle.laws.specs.Parts.{onto}
+use Rattle.node.proofs.Sound.{sound-sizes}
 use Rattle.rules.specs.Vote.{Vote}
 use Rattle.wire.specs.Message.{messageBytes}
 use Rattle.step.specs.Passing.{passedBelow}
 use Rattle.step.specs.Step.{Step}
 use Rattle.step.specs.declared.Stepped.{Stepped}
 use Rattle.step.proofs.Outboxes.{written-length}
-use Rattle.step.proofs.Steps.{numbers, rounds-told, Passes, passes, next-node, no-room, is-stepped}
+use Rattle.step.proofs.Steps.{rounds-told, Passes, passes, next-node, no-room, is-stepped}
 use Rattle.step.proofs.stepping.take.Statement.{statement}
 use Rattle.step.proofs.stepping.take.Tie as tie
 
@@ -34,7 +35,7 @@ take-inbox-requires c κs = search needs
 primaries-in-requires : tie.Need-primaries-in-requires
 primaries-in-requires c κs =
     let s = c .before .before .before .before .before .before in
-    let t = numbers (s .args .node) (now (s .args .inbox)) (s .pre .0) in
+    let t = sound-sizes (s .args .node) (s .pre .0) in
     omega (arith, t .half, t .most)
 
 size-all-requires : tie.Need-size-all-requires
@@ -60,7 +61,7 @@ fits c = let a = c .before .before .before .before .before .before .before .befo
 write-all-requires : tie.Need-write-all-requires
 write-all-requires c κs =
     let s = c .before .before .before .before .before .before .before .before .before .before in
-    let n = numbers (s .args .node) (now (s .args .inbox)) (s .pre .0) in
+    let n = sound-sizes (s .args .node) (s .pre .0) in
     let t = said-so (c .before .before .before) in
     ((n .nodes, omega (arith, n .node, n .most), t .most, t .held), (t .sayable, fits (c .before)))
 
@@ -70,7 +71,7 @@ kept-in-requires c κs = search needs
 add-t17 : tie.Need-add-t17
 add-t17 c =
     let s = c .before .before .before .before .before .before .before .before .before .before .before .before .before .before in
-    let t = numbers (s .args .node) (now (s .args .inbox)) (s .pre .0) in
+    let t = sound-sizes (s .args .node) (s .pre .0) in
     record { fits = omega (arith, rounds-told (s .args .node) (s .pre .1), t .half, t .most) }
 
 same-length : tie.Need-same-length

@@ -1,4 +1,4 @@
-use Rattle.wire.proofs.Cuts.{Told, unreadableFrom, mask-turn, mask-fits}
+use Rattle.wire.proofs.Cuts.{Told, unreadableFrom, sender-joins, still-fits}
 use Rattle.rules.proofs.Sizes.{sized-most}
 use native.Mathlib.Omega.{arith}
 use mathlib.Core.Path.{_≡_, refl, sym, ap, subst, _∙_}
@@ -82,7 +82,7 @@ add-unreadable c =
     let l = c .before .before .before .before .before .before .before .loop in
     let nodes = sym (c .before .before .before .before .before .before .before .before .before .before .is-sized .ensures) ∙ not-false _ (c .before .before .before .before .before .before .before .before .before .if1 .left) in
     let most = sized-most (a .n) nodes in
-    let fit = mask-fits (a .n) (a .me) (now (a .inbox)) (l .sender) (l .at) _ _ (l .unreadable) (c .sender-bit .result) (told (c .before .before)) (l .inv .2) (l .inv .3)
+    let fit = still-fits (a .n) (a .me) (now (a .inbox)) (l .sender) (l .at) _ _ (l .unreadable) (c .sender-bit .result) (told (c .before .before)) (l .inv .2) (l .inv .3)
     (c .sender-bit .ensures) (omega arith) in
     omega (arith, fit)
 
@@ -97,7 +97,7 @@ loop-again c =
     let a = c .before .before .before .before .before .before .before .before .before .before .before .before .args in
     let l = c .before .before .before .before .before .before .before .loop in
     let t = told (c .before .before) in
-    let turn = mask-turn (a .n) (a .me) (now (a .inbox)) (l .sender) (l .at) _ _ (l .unreadable) (c .sender-bit .result) t (l .inv .2) (l .inv .3) (c .sender-bit .ensures) in
+    let turn = sender-joins (a .n) (a .me) (now (a .inbox)) (l .sender) (l .at) _ _ (l .unreadable) (c .sender-bit .result) t (l .inv .2) (l .inv .3) (c .sender-bit .ensures) in
     (omega arith, omega (arith, t .end-is, t .fits), next-place (now (a .inbox)) (l .sender) (l .at) _ (l .inv .2) (t .end-is), turn)
 
 sub-left : tie.Need-sub-left Inv-loop μ-loop
