@@ -28,9 +28,11 @@ use Rattle.runs.specs.Forged.{ForgedRuns}
 use Rattle.runs.specs.NextRound.{NextRoundRuns}
 use Rattle.runs.specs.NotWhole.{inbox, NotWholeRuns}
 use Rattle.runs.specs.HalfFaulty.{HalfFaultyRuns}
+use Rattle.runs.specs.TooMany.{TooManyRuns}
+use Rattle.runs.specs.Alone.{AloneRuns}
 use Rattle.runs.proofs.Keeping.{schedule-granted}
 
-pub computed : ScheduleRuns × ShownRuns × ForgedRuns × NextRoundRuns × NotWholeRuns × HalfFaultyRuns
+pub computed : ScheduleRuns × ShownRuns × ForgedRuns × NextRoundRuns × NotWholeRuns × HalfFaultyRuns × TooManyRuns × AloneRuns
 unfolding inbox sizes sized isBatch fits isLog every gather shows opened accepted passedOn takenUp keeps newly passesOn decision decisions ones entryOf entryBytes entriesOf entriesBytes unreadable recordBytes votesAfter votesOf messageBytes placeOf messageOf wellCut inboxBytes soundTray soundBatch soundKept keptRight soundNode openNumber stepNumber after outbox closeNumber handed hasSent breaksRule count maskOf signer signersOf enough slotIn signersNumber
 computed = (
   record { bytes = refl; node1 = record { makes = refl; its = refl }; node2 = record { makes = refl; its = refl }; rule = refl; granted = schedule-granted schedule (record { nodes = refl; above = refl; few = refl; trays = refl; entries = refl; messages = refl; rule = refl }) },
@@ -67,4 +69,6 @@ computed = (
     node2 = record { makes = refl; its = refl };
   },
   record { alone = refl; one = refl; too-few = refl; refused = refl },
+  record { rule = refl; node1 = record { makes = refl; its = refl }; node2 = record { makes = refl; its = refl } },
+  record { makes = record { makes = refl; its = refl }; nodes = refl; trays = refl; well-formed = refl; room = refl; output = refl; cut = refl },
 )

@@ -5,3 +5,5 @@ pub mod Forged
 pub mod NextRound
 pub mod NotWhole
 pub mod HalfFaulty
+pub mod TooMany
+pub mod Alone

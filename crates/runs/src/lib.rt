@@ -7,6 +7,8 @@ ghost use Rattle.runs.specs.Forged.{ForgedRuns};
 ghost use Rattle.runs.specs.NextRound.{NextRoundRuns};
 ghost use Rattle.runs.specs.NotWhole.{NotWholeRuns};
 ghost use Rattle.runs.specs.HalfFaulty.{HalfFaultyRuns};
+ghost use Rattle.runs.specs.TooMany.{TooManyRuns};
+ghost use Rattle.runs.specs.Alone.{AloneRuns};
 
 // Document 01's own schedule makes the log that it prints; so all make one log in a run where a faulty node shows correct nodes' votes, sent in that round
 // and before, while another primary equivocates.
@@ -16,10 +18,10 @@ pub fn premises_can_be_met() -> bool
     true
 }
 
-// One forged vote, or one vote that its node sends in the next round, or one lost message between correct nodes: two different logs. Half of the nodes
-// faulty: too few signers.
+// One forged vote, or one vote that its node sends in the next round, or one lost message between correct nodes, or one faulty node more than f: two
+// different logs. Half of the nodes faulty: too few signers. A node alone without room, or a sound tray, or a well-formed old log, or a well-cut inbox: no log.
 pub fn premises_are_needed() -> bool
-    ensures { λ r. ⌜ (r ≡ true) × ForgedRuns × NextRoundRuns × NotWholeRuns × HalfFaultyRuns ⌝ }
+    ensures { λ r. ⌜ (r ≡ true) × ForgedRuns × NextRoundRuns × NotWholeRuns × HalfFaultyRuns × TooManyRuns × AloneRuns ⌝ }
 {
     true
 }
