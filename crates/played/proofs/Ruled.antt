@@ -25,7 +25,7 @@ use Rattle.wire.proofs.Sayable.{votes-sayable}
 use Rattle.wire.proofs.Writings.{said}
 use Rattle.tray.specs.Trays.{entriesOf}
 use Rattle.node.specs.Batches.{batchOf, keptAs}
-use Rattle.node.specs.State.{keptFor, nodeOf}
+use Rattle.node.specs.State.{keptFor, nodeOf, nodeAt}
 use Rattle.node.specs.declared.Node.{Node}
 use Rattle.node.proofs.Sound.{of-kept}
 use Rattle.round.specs.Found.{votesIn}
@@ -38,7 +38,7 @@ use Rattle.agreement.proofs.SentBy.{sent-by-state}
 use Rattle.schedule.specs.Forms.{formOf}
 use Rattle.schedule.specs.declared.Form.the-variants.{Good}
 use Rattle.contents.specs.Contents.{isFaulty}
-use Rattle.shown.specs.Shown.{keptHolds, hasSent as sentHeld, nodeAt, forgedFor as forgedHeld, forged as forgedShown, forgedAmong, breaks}
+use Rattle.shown.specs.Shown.{keptHolds, hasSent as sentHeld, forgedFor as forgedHeld, forged as forgedShown, forgedAmong, breaks}
 use Rattle.played.specs.Standing.{nodeBefore, standing}
 use Rattle.played.specs.Playing.{hallOf}
 use Rattle.played.specs.declared.Standing.{Standing}

@@ -11,6 +11,7 @@ use lib.Dec.{eqb, ltb}
 use lib.ListN.{length, getD, drop, replicate}
 use lib.Seq.{take-at}
 use Rattle.laws.specs.Masks.{bit, maskOf}
+use Rattle.node.specs.State.{nodeAt}
 use Rattle.laws.proofs.Tests.{both}
 use Rattle.laws.proofs.Bits.{mask-tells}
 use Rattle.laws.proofs.Order.{lt-or-ge}
@@ -35,7 +36,6 @@ use Rattle.schedule.specs.declared.Form.the-variants.{Good}
 use Rattle.contents.specs.Contents.{isFaulty, entriesOfTray, messageFor}
 use Rattle.contents.proofs.Good.{good-sizes, tray-batch, tray-entries}
 use Rattle.contents.proofs.Found.{message-bytes, message-size}
-use Rattle.shown.specs.Shown.{nodeAt}
 use Rattle.played.specs.Inboxes.{outboxOf, sentIn, outboxAt, messageTo, inboxTo, Short}
 use Rattle.played.specs.Standing.{stoodOf, nobody, unopened, steppedTo, correct, nodeBefore, stoodAt, standing}
 use Rattle.played.specs.Playing.{hallOf}

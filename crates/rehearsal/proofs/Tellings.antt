@@ -11,6 +11,7 @@ use lib.Dec.{leb}
 use lib.ListN.{length, take, drop}
 use lib.Seq.{take-append-seam}
 use Rattle.laws.specs.Masks.{maskOf}
+use Rattle.node.specs.State.{nodeAt}
 use Rattle.laws.proofs.Bits.{mask-tells}
 use Rattle.rules.specs.Sizes.{nodesMost}
 use Rattle.rules.proofs.Gathered.{each-at}
@@ -28,7 +29,7 @@ use Rattle.played.specs.Standing.{correct, nodeBefore, stoodAt}
 use Rattle.played.specs.Playing.{hallOf, breach, goodAs, playedTo, playedOf}
 use Rattle.played.specs.declared.Played.{Played}
 use Rattle.report.specs.Signing.{hasBit}
-use Rattle.report.specs.Report.{reportOf, textMost, nodeAt, Reports}
+use Rattle.report.specs.Report.{reportOf, textMost, Reports}
 use Rattle.report.proofs.Printing.{put-writes, writes-as}
 use Rattle.print.proofs.Lengths.{decimal-bound, line-length}
 use Rattle.report.proofs.Alike.{same-nodes}

@@ -7,6 +7,7 @@ use native.Mathlib.Omega.{arith}
 use lib.ListN.{length, getD, take, drop}
 use lib.Seq.{take-at}
 use Rattle.laws.specs.Parts.{onto}
+use Rattle.node.specs.State.{nodeAt}
 use Rattle.rules.specs.Signers.{Mark}
 use Rattle.rules.specs.Sizes.{nodesMost}
 use Rattle.entries.specs.Bytes.{AreEntries}
@@ -17,7 +18,7 @@ use Rattle.report.specs.Marks.{markWith, markAt}
 use Rattle.report.specs.Spoken.{slotsWith, slotsAt}
 use Rattle.report.specs.Signing.{hasBit, nodesThat, countedWith, signersBy, signersAt}
 use Rattle.report.specs.Lines.{linesText, sizesLines, allLines, reportLines}
-use Rattle.report.specs.Report.{nodeAt, Writes, Reports}
+use Rattle.report.specs.Report.{Writes, Reports}
 use Rattle.report.specs.Held.{heldAt, logIn, AllHeld, AllEntries, Numbered}
 use Rattle.report.specs.declared.logs.HeldLog.{HeldLog}
 use Rattle.report.specs.declared.marks.Numbers.{Numbers}

@@ -3,8 +3,9 @@ use Prim.Native.Nat.{ℕ, _*_, _<_, _≤_}
 use mathlib.Core.Path.{_≡_}
 use mathlib.Core.Bool.{Bool}
 use mathlib.Core.List.{List, []}
-use lib.ListN.{length, getD}
+use lib.ListN.{length}
 use Rattle.laws.specs.Parts.{onto}
+use Rattle.node.specs.State.{nodeAt}
 use Rattle.rules.specs.Sizes.{nodesMost}
 use Rattle.node.specs.declared.Node.{Node}
 use Rattle.report.specs.Logs.{logOf}
@@ -18,10 +19,6 @@ reportOf n f faulty node = linesText (reportLines n f faulty (λ (i : ℕ). logO
 -- bytes of a report, at most: 6,144 for each of sixteen nodes
 abbrev pub textMost : ℕ
 textMost = 6144 * nodesMost
-
--- node i of those handed over
-abbrev pub nodeAt : List Node → ℕ → Node
-nodeAt nodes i = getD nodes i (record { n = 0; f = 0; me = 0; phase = 0; own = record { count = 0; entries = [] }; kept = [] })
 
 -- w is to be written over the front of a text that has room for it: how many bytes are, and the text afterwards
 pub record Writes (w text : List ℕ) (answer : ℕ) (after : List ℕ) : Type 0 where

@@ -1,4 +1,4 @@
--- "The answer is the mask of signers, with f + 1 or more of them." "`signers=` would be empty if refused": a refusal's mask is 0.
+-- "The answer is the mask of signers, with f + 1 or more of them." A refusal's mask is 0, so a refused count would print no signers.
 use Prim.Native.Nat.{ℕ}
 use mathlib.Core.Bool.{Bool, cond}
 use mathlib.Core.List.{List, [], _∷_}

@@ -6,7 +6,7 @@ ghost use Prim.Native.Nat.{_<_, _≤_};
 ghost use lib.ListN.{set};
 ghost use Rattle.rules.specs.Sizes.{nodesMost};
 ghost use Rattle.report.specs.Logs.{logOf};
-ghost use Rattle.report.specs.Report.{nodeAt};
+ghost use Rattle.node.specs.State.{nodeAt};
 ghost use Rattle.report.specs.Signing.{hasBit};
 ghost use Rattle.report.specs.Held.{AllHeld, heldAs};
 use node::Node;

@@ -1,4 +1,4 @@
--- "Form is checked first for the whole file; the first bad line gives the single output line `bad=` with its number (file too long: `bad=0`)."
+-- "Form is checked first for the whole file [..]; the first bad line gives the single output line `bad=` with its number ([..] file too long: `bad=0`)."
 -- "A missing line is bad at the number it would have; a line without its LF is bad; anything after `end=` is bad."
 use Prim.Native.Nat.{ℕ, zero, suc, _+_}
 use mathlib.Core.Bool.{Bool, true, false, _&&_, cond}

@@ -4,14 +4,14 @@ use Prim.Native.Nat.{ℕ}
 use mathlib.Core.Bool.{Bool, not, _&&_, _||_}
 use mathlib.Core.List.{List, []}
 use lib.Dec.{eqb, leb, ltb}
-use lib.ListN.{length, getD}
+use lib.ListN.{length}
 use Rattle.laws.specs.Masks.{bit, every}
 use Rattle.laws.specs.Members.{those}
 use Rattle.rules.specs.Sizes.{sized}
 use Rattle.rules.specs.Vote.{Vote}
 use Rattle.wire.specs.Message.{votesOf}
 use Rattle.node.specs.Batches.{batchOf, sameBatch}
-use Rattle.node.specs.State.{keptAt}
+use Rattle.node.specs.State.{nodeAt, keptAt}
 use Rattle.node.specs.declared.Batch.{Batch}
 use Rattle.node.specs.declared.Kept.{Kept}
 use Rattle.node.specs.declared.Node.{Node}
@@ -28,10 +28,6 @@ isOwn s p b = eqb p (s .me) && sameBatch b (s .own)
 -- a node in this state has sent primary p and the batch
 unfoldable pub hasSent : Node → ℕ → Batch → Bool
 hasSent s p b = isOwn s p b || keptHolds (keptAt (s .kept) p) b
-
--- the state of node c
-abbrev pub nodeAt : List Node → ℕ → Node
-nodeAt nodes c = getD nodes c (record { n = 0; f = 0; me = 0; phase = 0; own = record { count = 0; entries = [] }; kept = [] })
 
 -- the witness mask shows the bit of node c, which is correct and in this state has not sent it; `faulty` is the mask of the faulty nodes
 abbrev pub forgedFor : (faulty : ℕ) (s : Node) (p mask : ℕ) (b : Batch) (c : ℕ) → Bool

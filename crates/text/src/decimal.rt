@@ -53,7 +53,7 @@ pub(crate) fn digits_below(s: &[u8], base: u64) -> bool
 }
 
 // A decimal number without leading zeros, at most `most`. Nothing wraps, however long it is: it is left off as soon as it is above.
-pub fn read_number(s: &[u8], most: u32) -> Number
+pub(crate) fn read_number(s: &[u8], most: u32) -> Number
     ensures { λ r. ⌜ r ≡ numberOf most (now (s .entry)) ⌝ }
 {
     if s.len() == 0 {
@@ -92,7 +92,7 @@ pub fn read_field(s: &[u8], sep: u8, most: u32) -> Number
 }
 
 // meter.interval.watthours
-pub fn read_entry(s: &[u8]) -> Number
+pub(crate) fn read_entry(s: &[u8]) -> Number
     ensures { λ r. ⌜ r ≡ entryIn (now (s .entry)) ⌝ }
 {
     let Number::Value(meter) = read_field(s, DOT, HALF_MOST) else {

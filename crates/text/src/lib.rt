@@ -6,9 +6,7 @@ mod line;
 mod list;
 mod places;
 
-pub use decimal::read_entry;
 pub use decimal::read_field;
-pub use decimal::read_number;
 pub use hex::hex_into;
 pub use hex::hex_size;
 pub use line::first_line;
@@ -17,9 +15,7 @@ pub use line::line_list;
 pub use line::line_number;
 pub use line::past_lines;
 pub use line::value;
-pub use list::read_list;
 pub use places::past;
-pub use places::place;
 use rules::BATCH_MOST;
 
 pub const LF: u8 = 10;

@@ -63,7 +63,7 @@ fn follows(count: usize, last: u64, x: u64) -> bool
 }
 
 // Ascending items by commas, or empty; at most 16.
-pub fn read_list(kind: Kind, s: &[u8]) -> Listed
+pub(crate) fn read_list(kind: Kind, s: &[u8]) -> Listed
     ensures { λ r. ⌜ r ≡ listedAs (listOf kind (now (s .entry))) ⌝ }
 {
     let mut items = [0u64; BATCH_MOST];

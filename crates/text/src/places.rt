@@ -3,7 +3,7 @@ ghost use mathlib.Core.Path.{_≡_};
 ghost use Rattle.text.specs.Places.{past, placeOf};
 
 // Where the first byte c stands; the length where there is none.
-pub fn place(s: &[u8], c: u8) -> usize
+pub(crate) fn place(s: &[u8], c: u8) -> usize
     ensures { λ r. ⌜ r ≡ placeOf c (now (s .entry)) ⌝ }
 {
     let mut i = 0;

@@ -1,6 +1,6 @@
 -- "An inbox is exactly n messages, senders 0 to n − 1, each after its length in two bytes, low byte first. Length 0 is silence. Too short or
--- too long is an ill-cut inbox; a stated length above 3,960 that fits is only an unreadable message. Each message is read from its own place
--- in the inbox."
+-- too long is an ill-cut inbox; a stated length above 3,960 that fits is only an unreadable message. [..] Each message is read from its own
+-- place in the inbox."
 use Prim.Native.Nat.{ℕ, zero, suc, _+_, _*_, _/_, _%_}
 use mathlib.Core.Path.{_≡_}
 use mathlib.Core.Bool.{Bool, not, _&&_}

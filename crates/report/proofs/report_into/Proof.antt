@@ -4,8 +4,8 @@ use native.Mathlib.Omega.{arith}
 use denote.Ref.{now}
 use lib.ListN.{replicate}
 use lib.Seq.{length-take-le}
+use Rattle.node.specs.State.{nodeAt}
 use Rattle.report.specs.Logs.{logOf}
-use Rattle.report.specs.Report.{nodeAt}
 use Rattle.report.specs.Signing.{hasBit}
 use Rattle.report.proofs.Made.{log-most, held-fit}
 use Rattle.report.proofs.Printing.{writes-as, sum-within, writes-both}

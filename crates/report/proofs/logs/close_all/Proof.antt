@@ -3,10 +3,10 @@ use Prim.Native.Nat.{_-_, _≤_}
 use mathlib.Core.Path.{_≡_, refl, subst, _∙_}
 use native.Mathlib.Omega.{arith}
 use lib.ListN.{length, replicate}
+use Rattle.node.specs.State.{nodeAt}
 use Rattle.rules.specs.Sizes.{nodesMost}
 use Rattle.closing.specs.Gather.{decidedMost}
 use Rattle.report.specs.Logs.{logOf}
-use Rattle.report.specs.Report.{nodeAt}
 use Rattle.report.specs.Signing.{hasBit}
 use Rattle.report.specs.Held.{AllHeld}
 use Rattle.report.proofs.Made.{held-places, none-held, one-held}
