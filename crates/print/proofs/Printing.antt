@@ -12,8 +12,6 @@ use lib.ListN.{drop, getD, length, length-append, length-drop, set, take, take-a
 use lib.Seq.{append-snoc, drop-cons, length-take-le, set-at, take-all, take-suc}
 use Rattle.laws.specs.Parts.{onto}
 use Rattle.laws.proofs.Lent.{comes-back, onto-length, rest-of}
-use Rattle.rules.specs.Run.{kept}
-use Rattle.rules.proofs.Firsts.{room}
 use Rattle.text.specs.Places.{comma}
 use Rattle.print.specs.Texts.{decimalOf, digitsIn, itemText, listText, moreText}
 use Rattle.print.specs.declared.Items.{Items}
