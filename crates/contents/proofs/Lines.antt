@@ -1,21 +1,19 @@
 -- The lines of a schedule that its contents are read from.
-use Prim.Native.Nat.{_+_, _<_, suc, zero, ℕ}
-use mathlib.Core.List.{List, [], _∷_}
+use Prim.Native.Nat.{_+_, ℕ}
+use mathlib.Core.List.{List, []}
 use mathlib.Core.Option.{Option, none, some}
 use mathlib.Core.Path.{_∙_, _≡_, ap, refl, sym}
 use native.Mathlib.Nat.{add-zero}
-use native.Mathlib.Omega.{arith}
-use lib.ListN.{drop, getD, length}
+use lib.ListN.{drop, getD}
 use lib.Seq.{drop-drop, getD-drop}
 use Rattle.tray.specs.Trays.{trayOf, trayWith}
 use Rattle.text.specs.Lines.{linesOf}
 use Rattle.text.specs.Lists.{listedAs}
 use Rattle.text.specs.declared.Listed.{Listed}
 use Rattle.schedule.specs.Header.{headedOf, headerSize, noHeader}
-use Rattle.schedule.specs.Sends.{Send, sendOf}
 use Rattle.schedule.specs.declared.Headed.the-variants.{BadAt, Read}
 use Rattle.schedule.specs.declared.Header.{Header}
-use Rattle.contents.specs.Contents.{headerAs, headerOf, itemsIn, sendThen, sendsIn, sendsOf}
+use Rattle.contents.specs.Contents.{headerAs, headerOf, itemsIn, sendsIn, sendsOf}
 
 -- the header that was read
 pub header-is : (s : List ℕ) (h : Header) → headedOf (linesOf s) ≡ Read h → headerOf s ≡ h
@@ -54,22 +52,3 @@ tray-is o L e = ap (λ (l : Listed). trayWith (l .count) (l .items)) e ∙ go o
     go : (x : Option (List ℕ)) → trayWith (listedAs x .count) (listedAs x .items) ≡ trayOf (itemsIn x)
     go none = refl
     go (some xs) = refl
-
--- the k-th send stands in the line of its number
-walk : (d : Send) (ls : List (List ℕ)) (k : ℕ) → k < length (sendsIn ls) → sendOf (getD ls k []) ≡ some (getD (sendsIn ls) k d)
-unfolding sendsIn sendThen
-walk d [] k h = absurd (omega arith)
-walk d (l ∷ ls) k h = go (sendOf l) refl k h (λ j q. walk d ls j q)
-  where
-    go : (o : Option Send) → sendOf l ≡ o → (k : ℕ) → k < length (sendThen o (sendsIn ls)) → ((j : ℕ) → j < length (sendsIn ls)
-        → sendOf (getD ls j []) ≡ some (getD (sendsIn ls) j d))
-        → sendOf (getD (l ∷ ls) k []) ≡ some (getD (sendThen o (sendsIn ls)) k d)
-    go none e k h ih = absurd (omega arith)
-    go (some x) e zero h ih = e
-    go (some x) e (suc k) h ih = ih k (omega arith)
-
-pub send-in-line : (s : List ℕ) (k : ℕ) (d : Send) → k < length (sendsOf s)
-    → sendOf (getD (linesOf s) (headerSize + headerOf s .n + k) []) ≡ some (getD (sendsOf s) k d)
-unfolding sendsOf
-send-in-line s k d h =
-    ap sendOf (sym (getD-drop (headerSize + headerOf s .n) (linesOf s) k [])) ∙ walk d (drop (headerSize + headerOf s .n) (linesOf s)) k h

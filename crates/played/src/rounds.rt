@@ -2,15 +2,11 @@
 ghost use mathlib.Core.Path.{_≡_};
 ghost use mathlib.Core.List.{[]};
 ghost use Prim.Native.Nat.{_+_, _≤_, _<_};
-ghost use Rattle.laws.specs.Masks.{maskOf};
 ghost use Rattle.rules.specs.Sizes.{nodesMost};
 ghost use Rattle.agreement.specs.Hall.{nodeAfter, sends};
-ghost use Rattle.schedule.specs.Forms.{formOf};
-ghost use Rattle.schedule.specs.declared.Form.the-variants.{Good};
-ghost use Rattle.contents.specs.Contents.{isFaulty};
 ghost use Rattle.played.specs.Inboxes.{Short, inboxTo};
 ghost use Rattle.played.specs.Standing.{nobody, standing, steppedTo, stoodAt, stoodOf, unopened};
-ghost use Rattle.played.specs.Playing.{hallOf};
+ghost use Rattle.played.specs.Playing.{Reached, hallOf};
 use crate::INBOX_MOST;
 use crate::Outbox;
 use crate::Standing;
@@ -99,7 +95,7 @@ fn step_node(
 
 // Node i after the opening or the round that is next; zeros where no correct node has that number.
 fn next_node(s: &[u8], n: usize, f: usize, faulty: u16, here: Standing, i: usize) -> Stood
-    requires { ⌜ (i < nodesMost) × (formOf (now s) ≡ Good n f) × (faulty ≡ maskOf (isFaulty (now s)) nodesMost) × (here ≡ standing (hallOf (now s) n f) (here .next)) × (here .next ≤ f + 1) ⌝ }
+    requires { ⌜ (i < nodesMost) × Reached (now s) n f faulty here × (here .next ≤ f + 1) ⌝ }
     ensures { λ r. ⌜ r ≡ stoodAt (hallOf (now (s .entry)) n f) (here .next + 1) i ⌝ }
 {
     if n <= i {
@@ -120,7 +116,7 @@ fn next_node(s: &[u8], n: usize, f: usize, faulty: u16, here: Standing, i: usize
 
 // The run after the opening or the round that is next.
 fn advance(s: &[u8], n: usize, f: usize, faulty: u16, here: Standing) -> Standing
-    requires { ⌜ (formOf (now s) ≡ Good n f) × (faulty ≡ maskOf (isFaulty (now s)) nodesMost) × (here ≡ standing (hallOf (now s) n f) (here .next)) × (here .next ≤ f + 1) ⌝ }
+    requires { ⌜ Reached (now s) n f faulty here × (here .next ≤ f + 1) ⌝ }
     ensures { λ r. ⌜ r ≡ standing (hallOf (now (s .entry)) n f) (here .next + 1) ⌝ }
 {
     let empty = start();
@@ -151,7 +147,7 @@ pub(crate) fn advance_to(
     here: Standing,
     round: usize,
 ) -> Standing
-    requires { ⌜ (formOf (now s) ≡ Good n f) × (faulty ≡ maskOf (isFaulty (now s)) nodesMost) × (here ≡ standing (hallOf (now s) n f) (here .next)) × (here .next ≤ round) × (round ≤ f + 2) ⌝ }
+    requires { ⌜ Reached (now s) n f faulty here × (here .next ≤ round) × (round ≤ f + 2) ⌝ }
     ensures { λ r. ⌜ r ≡ standing (hallOf (now (s .entry)) n f) round ⌝ }
 {
     let mut at = here;

@@ -1,4 +1,3 @@
 pub mod Printing
 pub mod Lengths
-pub mod Joined
 pub mod Back

@@ -12,8 +12,6 @@ use lib.ListN.{drop, getD, length, length-append, length-drop, set, take, take-a
 use lib.Seq.{append-snoc, drop-cons, length-take-le, set-at, take-all, take-suc}
 use Rattle.laws.specs.Parts.{onto}
 use Rattle.laws.proofs.Lent.{comes-back, onto-length, rest-of}
-use Rattle.rules.specs.Run.{kept}
-use Rattle.rules.proofs.Firsts.{room}
 use Rattle.text.specs.Places.{comma}
 use Rattle.print.specs.Texts.{decimalOf, digitsIn, itemText, listText, moreText}
 use Rattle.print.specs.declared.Items.{Items}
@@ -49,6 +47,9 @@ small-length v h = ap length (decimal-small v h)
 pub step-length : (v : ℕ) → 10 ≤ v → length (decimalOf v) ≡ length (decimalOf (v / 10)) + 1
 step-length v h = ap length (decimal-step v h) ∙ length-append (decimalOf (v / 10)) ((48 + v % 10) ∷ [])
 
+pub step-room : (v n : ℕ) → 10 ≤ v → length (decimalOf v) ≤ n → length (decimalOf (v / 10) ++ ((48 + v % 10) ∷ [])) ≤ n
+step-room v n h l = omega (arith, l, ap length (decimal-step v h))
+
 -- ---- over the front
 
 -- one byte more
@@ -66,43 +67,52 @@ onto-byte w out last k b e f h =
 pub onto-first : (out : List ℕ) (b : ℕ) → 1 ≤ length out → set out 0 b ≡ onto (b ∷ []) out
 onto-first out b h = onto-byte [] out out 0 b refl refl h
 
--- a byte is written behind w
-module _ (w out last : List ℕ) (k b : ℕ) (h : length (w ++ (b ∷ [])) ≤ length out) (e : k ≡ length w) (kept : length last ≡ length out) where
+-- w is written over the front of out: so many bytes
+abbrev pub Over : (w out : List ℕ) (k : ℕ) (last : List ℕ) → Type 0
+Over w out k last = (k ≡ length w) × (last ≡ onto w out)
+
+-- w is written, and a byte behind it
+module _ (w out : List ℕ) (b : ℕ) {last : List ℕ} {k : ℕ} (h : length (w ++ (b ∷ [])) ≤ length out) (p : Over w out k last) where
+  room-behind : length w + 1 ≤ length out
+  room-behind = omega (arith, h, length-append w (b ∷ []))
+
   pub byte-room : k < length last
-  byte-room = omega (arith, length-append w (b ∷ []))
+  byte-room = omega (arith, p .0, ap length (p .1), onto-length w out (omega (arith, room-behind)), room-behind)
 
-  pub byte-length : k + 1 ≡ length (w ++ (b ∷ []))
-  byte-length = omega (arith, length-append w (b ∷ []))
-
-  pub byte-onto : last ≡ onto w out → set last k b ≡ onto (w ++ (b ∷ [])) out
-  byte-onto f = onto-byte w out last k b e f (omega (arith, length-append w (b ∷ [])))
+  pub byte-over : Over (w ++ (b ∷ [])) out (k + 1) (set last k b)
+  byte-over = (omega (arith, p .0, length-append w (b ∷ [])), onto-byte w out last k b (p .0) (p .1) room-behind)
 
 pub left-fits : (v w : List ℕ) (n : ℕ) → length (v ++ w) ≤ n → length v ≤ n
 left-fits v w n h = omega (arith, length-append v w)
 
 -- v is written, and the rest behind it is lent for w
-module _ (v w out last : List ℕ) (r : ℕ) (h : length (v ++ w) ≤ length out) (e : r ≡ length v) (kept : length last ≡ length out) where
+module _ (v w out : List ℕ) {last : List ℕ} {r : ℕ} (h : length (v ++ w) ≤ length out) (p : Over v out r last) where
+  as-long : length last ≡ length out
+  as-long = ap length (p .1) ∙ onto-length v out (left-fits v w (length out) h)
+
   pub part-start : r ≤ length last
-  part-start = omega (arith, length-append v w)
+  part-start = omega (arith, h, p .0, as-long, length-append v w)
 
   pub part-room : length w ≤ length (take (length last - r) (drop r last))
-  part-room = rw (rest-of last r, length-drop r last) (omega (arith, length-append v w))
-
-  module _ (q : ℕ) (d : q ≡ length w) where
-    pub both-length : r + q ≡ length (v ++ w)
-    both-length = omega (arith, length-append v w)
-
-    pub both-fit : r + q ≤ length out
-    both-fit = omega (arith, both-length)
+  part-room = rw (rest-of last r, length-drop r last) (omega (arith, h, p .0, as-long, length-append v w))
 
   -- it has come back
-  module _ (f : last ≡ onto v out) (back : List ℕ) (g : back ≡ onto w (take (length last - r) (drop r last))) where
-    pub both-onto : putMid r (length last - r) last back ≡ onto (v ++ w) out
+  module _ {q : ℕ} {back : List ℕ} (g : Over w (take (length last - r) (drop r last)) q back) where
+    both-length : r + q ≡ length (v ++ w)
+    both-length = omega (arith, p .0, g .0, length-append v w)
+
+    pub both-fit : r + q ≤ length out
+    both-fit = omega (arith, h, both-length)
+
+    both-onto : putMid r (length last - r) last back ≡ onto (v ++ w) out
     both-onto =
-        let a : last ≡ v ++ drop r out = f ∙ ap (λ (j : ℕ). v ++ drop j out) (sym e) in
-        let l : r ≤ length out = omega (arith, length-append v w) in
-        let n : r + length w ≡ length (v ++ w) = omega (arith, length-append v w) in
-        comes-back v w out last back r (sym e) l a g ∙ ap (λ (j : ℕ). (v ++ w) ++ drop j out) n
+        let e : last ≡ v ++ drop r out = p .1 ∙ ap (λ (j : ℕ). v ++ drop j out) (sym (p .0)) in
+        let l : r ≤ length out = omega (arith, h, p .0, length-append v w) in
+        let n : r + length w ≡ length (v ++ w) = omega (arith, p .0, length-append v w) in
+        comes-back v w out last back r (sym (p .0)) l e (g .1) ∙ ap (λ (j : ℕ). (v ++ w) ++ drop j out) n
+
+    pub both-over : Over (v ++ w) out (r + q) (putMid r (length last - r) last back)
+    both-over = (both-length, both-onto)
 
     pub both-kept : length (putMid r (length last - r) last back) ≡ length out
     both-kept = ap length both-onto ∙ onto-length (v ++ w) out h

@@ -16,10 +16,11 @@ use Rattle.wire.specs.Message.{votesAfter, votesOf, messageBytes}
 use Rattle.wire.specs.Inbox.{placeOf, messageOf, wellCut, unreadableSenders}
 use Rattle.tray.specs.Trays.{soundTray, trayWith}
 use Rattle.node.specs.Batches.{soundBatch, soundKept}
-use Rattle.node.specs.State.{keptRight, soundNode, fresh, newNumber, keptAt}
+use Rattle.node.specs.State.{keptRight, soundNode, fresh, newNumber}
 use Rattle.node.specs.Opening.{openNumber, openedNode, openingVote}
 use Rattle.step.specs.Step.{stepNumber, steppedNode, passedBy}
 use Rattle.step_examples.specs.Halls.{before, one, from0, alone}
+use Rattle.step_examples.specs.Rounds.{Keeps}
 
 -- ---- the hall of three opens with an empty tray, and is silent in round 1
 
@@ -71,54 +72,34 @@ alone-done = refl
 abbrev pub p5 : List ℕ
 p5 = from0 12 (one 1 7)
 
-pub p5-done : stepNumber (before 2) p5 1 ≡ done
-unfolding stepNumber soundNode keptRight soundKept soundBatch soundTray isBatch sizes sized every gather wellCut placeOf takenUp keeps newly accepted shows ones passedOn passesOn votesOf votesAfter unreadable entriesOf entryOf messageOf messageBytes recordBytes entriesBytes entryBytes
-p5-done = refl
-
-pub p5-kept : keptAt (steppedNode (before 2) p5 .kept) 0 .count ≡ 0
-unfolding gather takenUp keeps newly accepted shows ones votesOf votesAfter unreadable entriesOf entryOf placeOf messageOf
-p5-kept = refl
-
-pub p5-readable : unreadableSenders 3 1 p5 ≡ 0
-unfolding unreadableSenders maskOf votesOf votesAfter unreadable entriesOf entryOf placeOf messageOf
-p5-readable = refl
+pub p5-keeps : Keeps (before 2) p5 1 0
+unfolding stepNumber soundNode keptRight soundKept soundBatch soundTray isBatch sizes sized every gather wellCut placeOf takenUp keeps newly accepted shows ones passedOn passesOn votesOf votesAfter unreadable unreadableSenders maskOf entriesOf entryOf messageOf messageBytes recordBytes entriesBytes entryBytes
+p5-keeps = record { is-done = refl; readable = refl; kept = refl }
 
 abbrev pub p8 : List ℕ
 p8 = from0 12 (one 6 7)
 
-pub p8-done : stepNumber (before 2) p8 1 ≡ done
-unfolding stepNumber soundNode keptRight soundKept soundBatch soundTray isBatch sizes sized every gather wellCut placeOf takenUp keeps newly accepted shows ones passedOn passesOn votesOf votesAfter unreadable entriesOf entryOf messageOf messageBytes recordBytes entriesBytes entryBytes
-p8-done = refl
-
-pub p8-kept : keptAt (steppedNode (before 2) p8 .kept) 0 .count ≡ 0
-unfolding gather takenUp keeps newly accepted shows ones votesOf votesAfter unreadable entriesOf entryOf placeOf messageOf
-p8-kept = refl
+pub p8-keeps : Keeps (before 2) p8 1 0
+unfolding stepNumber soundNode keptRight soundKept soundBatch soundTray isBatch sizes sized every gather wellCut placeOf takenUp keeps newly accepted shows ones passedOn passesOn votesOf votesAfter unreadable unreadableSenders maskOf entriesOf entryOf messageOf messageBytes recordBytes entriesBytes entryBytes
+p8-keeps = record { is-done = refl; readable = refl; kept = refl }
 
 -- ---- P6: two batches in one message
 
 abbrev pub p6 : List ℕ
 p6 = from0 24 (one 1 1 ++ one 1 2)
 
-pub p6-done : stepNumber (before 1) p6 24 ≡ done
-unfolding stepNumber soundNode keptRight soundKept soundBatch soundTray isBatch sizes sized every gather wellCut placeOf takenUp keeps newly accepted shows ones passedOn passesOn votesOf votesAfter unreadable entriesOf entryOf messageOf messageBytes recordBytes entriesBytes entryBytes
-p6-done = refl
-
-pub p6-kept : keptAt (steppedNode (before 1) p6 .kept) 0 .count ≡ 2
-unfolding gather takenUp keeps newly accepted shows ones votesOf votesAfter unreadable entriesOf entryOf placeOf messageOf
-p6-kept = refl
+pub p6-keeps : Keeps (before 1) p6 24 2
+unfolding stepNumber soundNode keptRight soundKept soundBatch soundTray isBatch sizes sized every gather wellCut placeOf takenUp keeps newly accepted shows ones passedOn passesOn votesOf votesAfter unreadable unreadableSenders maskOf entriesOf entryOf messageOf messageBytes recordBytes entriesBytes entryBytes
+p6-keeps = record { is-done = refl; readable = refl; kept = refl }
 
 -- ---- P7: three batches in one message
 
 abbrev pub p7 : List ℕ
 p7 = from0 36 (one 1 1 ++ (one 1 2 ++ one 1 3))
 
-pub p7-done : stepNumber (before 1) p7 24 ≡ done
-unfolding stepNumber soundNode keptRight soundKept soundBatch soundTray isBatch sizes sized every gather wellCut placeOf takenUp keeps newly accepted shows ones passedOn passesOn votesOf votesAfter unreadable entriesOf entryOf messageOf messageBytes recordBytes entriesBytes entryBytes
-p7-done = refl
-
-pub p7-kept : keptAt (steppedNode (before 1) p7 .kept) 0 .count ≡ 2
-unfolding gather takenUp keeps newly accepted shows ones votesOf votesAfter unreadable entriesOf entryOf placeOf messageOf
-p7-kept = refl
+pub p7-keeps : Keeps (before 1) p7 24 2
+unfolding stepNumber soundNode keptRight soundKept soundBatch soundTray isBatch sizes sized every gather wellCut placeOf takenUp keeps newly accepted shows ones passedOn passesOn votesOf votesAfter unreadable unreadableSenders maskOf entriesOf entryOf messageOf messageBytes recordBytes entriesBytes entryBytes
+p7-keeps = record { is-done = refl; readable = refl; kept = refl }
 
 pub p7-outbox : messageBytes (passedBy (before 1) p7) ≡ one 3 1 ++ one 3 2
 unfolding gather takenUp keeps newly accepted shows ones passedOn passesOn votesOf votesAfter unreadable entriesOf entryOf placeOf messageOf messageBytes recordBytes entriesBytes entryBytes
@@ -129,21 +110,13 @@ p7-outbox = refl
 abbrev pub empty : List ℕ
 empty = from0 4 (0 ∷ 0 ∷ 1 ∷ 0 ∷ [])
 
-pub empty-done : stepNumber (before 1) empty 4 ≡ done
-unfolding stepNumber soundNode keptRight soundKept soundBatch soundTray isBatch sizes sized every gather wellCut placeOf takenUp keeps newly accepted shows ones passedOn passesOn votesOf votesAfter unreadable entriesOf entryOf messageOf messageBytes recordBytes entriesBytes entryBytes
-empty-done = refl
-
-pub empty-kept : keptAt (steppedNode (before 1) empty .kept) 0 .count ≡ 1
-unfolding gather takenUp keeps newly accepted shows ones votesOf votesAfter unreadable entriesOf entryOf placeOf messageOf
-empty-kept = refl
+pub empty-keeps : Keeps (before 1) empty 4 1
+unfolding stepNumber soundNode keptRight soundKept soundBatch soundTray isBatch sizes sized every gather wellCut placeOf takenUp keeps newly accepted shows ones passedOn passesOn votesOf votesAfter unreadable unreadableSenders maskOf entriesOf entryOf messageOf messageBytes recordBytes entriesBytes entryBytes
+empty-keeps = record { is-done = refl; readable = refl; kept = refl }
 
 abbrev pub p10 : List ℕ
 p10 = from0 16 (0 ∷ 0 ∷ 1 ∷ 0 ∷ one 1 1)
 
-pub p10-done : stepNumber (before 1) p10 16 ≡ done
-unfolding stepNumber soundNode keptRight soundKept soundBatch soundTray isBatch sizes sized every gather wellCut placeOf takenUp keeps newly accepted shows ones passedOn passesOn votesOf votesAfter unreadable entriesOf entryOf messageOf messageBytes recordBytes entriesBytes entryBytes
-p10-done = refl
-
-pub p10-kept : keptAt (steppedNode (before 1) p10 .kept) 0 .count ≡ 2
-unfolding gather takenUp keeps newly accepted shows ones votesOf votesAfter unreadable entriesOf entryOf placeOf messageOf
-p10-kept = refl
+pub p10-keeps : Keeps (before 1) p10 16 2
+unfolding stepNumber soundNode keptRight soundKept soundBatch soundTray isBatch sizes sized every gather wellCut placeOf takenUp keeps newly accepted shows ones passedOn passesOn votesOf votesAfter unreadable unreadableSenders maskOf entriesOf entryOf messageOf messageBytes recordBytes entriesBytes entryBytes
+p10-keeps = record { is-done = refl; readable = refl; kept = refl }

@@ -1,1 +1,2 @@
 pub mod Halls
+pub mod Rounds

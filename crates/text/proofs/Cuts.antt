@@ -145,6 +145,17 @@ module _ (s line : List ℕ) (at : ℕ) (within : at ≤ length s) (e : line ≡
       let some : 0 < length (drop (at + length line) s) = omega (arith, l, f, length-drop at s, length-drop (at + length line) s) in
       omega (arith, z, ap length (lines-more (drop (at + length line) s) some))
 
+-- the line at `at`, where the loop is not at the end: one turn goes past it
+pub record Turn (s line : List ℕ) (at : ℕ) : Type 0 where
+  pub fits : at + length line ≤ length s
+  pub further : 0 < length line
+  pub next : linesOf (drop at s) ≡ line ∷ linesOf (drop (at + length line) s)
+
+pub turn : (s line : List ℕ) (at : ℕ) → at < length s → line ≡ getD (linesOf (take (length s - at) (drop at s))) 0 [] → Turn s line at
+turn s line at h e =
+    let within : at ≤ length s = omega (arith, h) in
+    record { fits = line-fits s line at within e; further = line-some s line at within e h; next = lines-next s line at within e h }
+
 -- ---- a text is its lines put together, so that its lines determine it
 
 whole : List (List ℕ) → List ℕ

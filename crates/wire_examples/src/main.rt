@@ -35,12 +35,7 @@ fn is_unreadable(answer: Record) -> bool
     ensures { λ r. ⌜ r ≡ isUnreadable answer ⌝ }
 {
     match answer {
-        Record::Vote {
-            primary: _,
-            mask: _,
-            count: _,
-            next: _,
-        } => false,
+        Record::Vote { .. } => false,
         Record::Unreadable => true,
         Record::Refused => false,
     }
@@ -50,12 +45,7 @@ fn is_refused(answer: Record) -> bool
     ensures { λ r. ⌜ r ≡ isRefused answer ⌝ }
 {
     match answer {
-        Record::Vote {
-            primary: _,
-            mask: _,
-            count: _,
-            next: _,
-        } => false,
+        Record::Vote { .. } => false,
         Record::Unreadable => false,
         Record::Refused => true,
     }

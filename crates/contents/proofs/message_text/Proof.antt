@@ -7,9 +7,7 @@ use borrow.Author.Needs.{needs}
 use lib.ListN.{drop, length}
 use Rattle.text.specs.Hex.{hexOf}
 use Rattle.text.specs.Lines.{linesOf}
-use Rattle.text.proofs.Cuts.{line-fits, line-some, lines-next, lines-past}
-use Rattle.text.proofs.Scan.{next}
-use Rattle.schedule.specs.Sends.{fits}
+use Rattle.text.proofs.Cuts.{Turn, lines-past, turn}
 use Rattle.schedule.proofs.Fits.{none-told, sent-told}
 use Rattle.contents.specs.Contents.{messageFor, messageIn, sendsIn}
 use Rattle.contents.proofs.Walk.{message-end, message-here, message-next, message-none}
@@ -29,6 +27,11 @@ loop-holds : tie.Need-loop-holds Inv-loop μ-loop
 loop-holds c =
     let a = c .before .before .args in
     (omega arith, ap (messageIn (a .r) (a .from) (a .to)) (c .send-lines .ensures))
+
+-- the line that is read
+here : (c : tie.After-first-line Inv-loop μ-loop)
+    → Turn (now (c .before .before .before .before .send-lines .result)) (now (c .first-line .result)) (c .before .before .before .loop .at)
+here c = turn _ _ _ (c .before .before .loop-test .taken) (c .first-line .ensures)
 
 sub-first-line : tie.Need-sub-first-line Inv-loop μ-loop
 sub-first-line c = search needs
@@ -56,13 +59,11 @@ message-text-requires c κs = search needs
 
 returns : tie.Need-returns Inv-loop μ-loop
 returns c =
-    let lines = now (c .before .before .before .before .before .before .before .before .before .before .before .send-lines .result) in
+    let turn = here (c .before .before .before .before .before .before .before) in
     let l = c .before .before .before .before .before .before .before .before .before .before .loop in
-    let next = lines-next lines _ (l .at) (omega arith) (c .before .before .before .before .before .before .before .first-line .ensures)
-    (c .before .before .before .before .before .before .before .before .before .loop-test .taken) in
     let told = sent-told (now (c .before .before .before .before .before .before .before .first-line .result)) _ _ _ (sym
     (c .before .before .before .before .round .given .1) ∙ c .before .before .before .before .before .before .read-send .ensures) in
-    ap hexOf (c .message-text .ensures) ∙ message-here _ _ _ _ _ (l .inv .1) _ _ next _ (told .is) (sym (c .before .before .is-numbered .ensures)
+    ap hexOf (c .message-text .ensures) ∙ message-here _ _ _ _ _ (l .inv .1) _ _ (turn .next) _ (told .is) (sym (c .before .before .is-numbered .ensures)
     ∙ c .before .if1 .taken)
 
 enum-told : tie.Need-enum-told Inv-loop μ-loop
@@ -73,42 +74,23 @@ slice-aggregate-result c = search needs
 
 returns-2 : tie.Need-returns-2 Inv-loop μ-loop
 returns-2 c =
-    let lines = now (c .before .before .before .before .before .before .before .before .send-lines .result) in
+    let turn = here (c .before .before .before .before) in
     let l = c .before .before .before .before .before .before .before .loop in
-    let next = lines-next lines _ (l .at) (omega arith) (c .before .before .before .before .first-line .ensures)
-    (c .before .before .before .before .before .before .loop-test .taken) in
-    message-none _ _ _ _ _ (l .inv .1) _ _ next (none-told _ (sym (c .before .enum-told .given .1) ∙ c .before .before .before .read-send .ensures))
+    message-none _ _ _ _ _ (l .inv .1) _ _ (turn .next) (none-told _ (sym (c .before .enum-told .given .1) ∙ c .before .before .before .read-send .ensures))
 
 add-at : tie.Need-add-at Inv-loop μ-loop
-add-at c = omega (
-  arith,
-  line-fits (now (c .before .before .before .before .before .before .before .before .before .before .send-lines .result))
-      (now (c .before .before .before .before .before .before .first-line .result))
-      (c .before .before .before .before .before .before .before .before .before .loop .at) (omega arith)
-      (c .before .before .before .before .before .before .first-line .ensures),
-)
+add-at c = omega (arith, here (c .before .before .before .before .before .before) .fits)
 
 loop-less : tie.Need-loop-less Inv-loop μ-loop
-loop-less c = omega (
-  arith,
-  line-some (now (c .before .before .before .before .before .before .before .before .before .before .send-lines .result))
-      (now (c .before .before .before .before .before .before .first-line .result))
-      (c .before .before .before .before .before .before .before .before .before .loop .at) (omega arith)
-      (c .before .before .before .before .before .before .first-line .ensures)
-      (c .before .before .before .before .before .before .before .before .loop-test .taken),
-)
+loop-less c = omega (arith, here (c .before .before .before .before .before .before) .further)
 
 loop-again : tie.Need-loop-again Inv-loop μ-loop
 loop-again c =
-    let lines = now (c .before .before .before .before .before .before .before .before .before .before .send-lines .result) in
+    let turn = here (c .before .before .before .before .before .before) in
     let l = c .before .before .before .before .before .before .before .before .before .loop in
-    let next = lines-next lines _ (l .at) (omega arith) (c .before .before .before .before .before .before .first-line .ensures)
-    (c .before .before .before .before .before .before .before .before .loop-test .taken) in
-    let fits = line-fits lines (now (c .before .before .before .before .before .before .first-line .result)) (l .at) (omega arith)
-    (c .before .before .before .before .before .before .first-line .ensures) in
     let told = sent-told (now (c .before .before .before .before .before .before .first-line .result)) _ _ _ (sym
     (c .before .before .before .round .given .1) ∙ c .before .before .before .before .before .read-send .ensures) in
-    (fits, message-next _ _ _ _ _ (l .inv .1) _ _ next _ (told .is) (sym (c .before .is-numbered .ensures) ∙ c .if1 .left))
+    (turn .fits, message-next _ _ _ _ _ (l .inv .1) _ _ (turn .next) _ (told .is) (sym (c .before .is-numbered .ensures) ∙ c .if1 .left))
 
 slice-aggregate-result-2 : tie.Need-slice-aggregate-result-2 Inv-loop μ-loop
 slice-aggregate-result-2 c = search needs

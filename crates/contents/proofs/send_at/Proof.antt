@@ -7,9 +7,8 @@ use denote.Ref.{now}
 use borrow.Author.Needs.{needs}
 use lib.ListN.{drop, length}
 use Rattle.text.specs.Lines.{linesOf}
-use Rattle.text.proofs.Cuts.{line-fits, line-some, lines-next, lines-past}
-use Rattle.text.proofs.Scan.{next}
-use Rattle.schedule.specs.Sends.{Send, fits}
+use Rattle.text.proofs.Cuts.{Turn, lines-past, turn}
+use Rattle.schedule.specs.Sends.{Send}
 use Rattle.schedule.proofs.Fits.{none-told, sent-told}
 use Rattle.contents.specs.Contents.{sendingAt, sendsIn, sendsOf}
 use Rattle.contents.proofs.Walk.{at-end, at-here, at-next, at-none}
@@ -27,6 +26,11 @@ send-lines-requires c κs = search needs
 
 loop-holds : tie.Need-loop-holds Inv-loop μ-loop
 loop-holds c = (omega arith, ap (λ (xs : List Send). sendingAt xs (c .before .before .args .k)) (c .send-lines .ensures))
+
+-- the line that is read
+here : (c : tie.After-first-line Inv-loop μ-loop)
+    → Turn (now (c .before .before .before .before .send-lines .result)) (now (c .first-line .result)) (c .before .before .before .loop .at)
+here c = turn _ _ _ (c .before .before .loop-test .taken) (c .first-line .ensures)
 
 sub-first-line : tie.Need-sub-first-line Inv-loop μ-loop
 sub-first-line c = search needs
@@ -48,13 +52,11 @@ enum-known-round c = search needs
 
 returns : tie.Need-returns Inv-loop μ-loop
 returns c =
-    let lines = now (c .before .before .before .before .before .before .before .before .before .send-lines .result) in
+    let turn = here (c .before .before .before .before .before) in
     let l = c .before .before .before .before .before .before .before .before .loop in
-    let next = lines-next lines _ (l .at) (omega arith) (c .before .before .before .before .before .first-line .ensures)
-    (c .before .before .before .before .before .before .before .loop-test .taken) in
     let told = sent-told (now (c .before .before .before .before .before .first-line .result)) _ _ _ (sym (c .before .before .round .given .1)
     ∙ c .before .before .before .before .read-send .ensures) in
-    at-here _ _ _ (l .inv .1) _ _ next _ (told .is) (c .if1 .taken)
+    at-here _ _ _ (l .inv .1) _ _ (turn .next) _ (told .is) (c .if1 .taken)
 
 sub-left : tie.Need-sub-left Inv-loop μ-loop
 sub-left c = search needs
@@ -64,40 +66,23 @@ enum-told c = search needs
 
 returns-2 : tie.Need-returns-2 Inv-loop μ-loop
 returns-2 c =
-    let lines = now (c .before .before .before .before .before .before .before .send-lines .result) in
+    let turn = here (c .before .before .before) in
     let l = c .before .before .before .before .before .before .loop in
-    let next = lines-next lines _ (l .at) (omega arith) (c .before .before .before .first-line .ensures)
-    (c .before .before .before .before .before .loop-test .taken) in
-    at-none _ _ _ (l .inv .1) _ _ next (none-told _ (sym (c .enum-told .given .1) ∙ c .before .before .read-send .ensures))
+    at-none _ _ _ (l .inv .1) _ _ (turn .next) (none-told _ (sym (c .enum-told .given .1) ∙ c .before .before .read-send .ensures))
 
 add-at : tie.Need-add-at Inv-loop μ-loop
-add-at c = omega (
-  arith,
-  line-fits (now (c .before .before .before .before .before .before .before .before .before .send-lines .result)) (now
-      (c .before .before .before .before .before .first-line .result)) (c .before .before .before .before .before .before .before .before .loop .at)
-      (omega arith) (c .before .before .before .before .before .first-line .ensures),
-)
+add-at c = omega (arith, here (c .before .before .before .before .before) .fits)
 
 loop-less : tie.Need-loop-less Inv-loop μ-loop
-loop-less c = omega (
-  arith,
-  line-some (now (c .before .before .before .before .before .before .before .before .before .send-lines .result)) (now
-      (c .before .before .before .before .before .first-line .result)) (c .before .before .before .before .before .before .before .before .loop .at)
-      (omega arith) (c .before .before .before .before .before .first-line .ensures)
-      (c .before .before .before .before .before .before .before .loop-test .taken),
-)
+loop-less c = omega (arith, here (c .before .before .before .before .before) .further)
 
 loop-again : tie.Need-loop-again Inv-loop μ-loop
 loop-again c =
-    let lines = now (c .before .before .before .before .before .before .before .before .before .send-lines .result) in
+    let turn = here (c .before .before .before .before .before) in
     let l = c .before .before .before .before .before .before .before .before .loop in
-    let next = lines-next lines _ (l .at) (omega arith) (c .before .before .before .before .before .first-line .ensures)
-    (c .before .before .before .before .before .before .before .loop-test .taken) in
-    let fits = line-fits lines (now (c .before .before .before .before .before .first-line .result)) (l .at) (omega arith)
-    (c .before .before .before .before .before .first-line .ensures) in
     let told = sent-told (now (c .before .before .before .before .before .first-line .result)) _ _ _ (sym (c .before .before .round .given .1)
     ∙ c .before .before .before .before .read-send .ensures) in
-    (fits, at-next _ _ _ (l .inv .1) _ _ next _ (told .is) (c .if1 .left))
+    (turn .fits, at-next _ _ _ (l .inv .1) _ _ (turn .next) _ (told .is) (c .if1 .left))
 
 returns-3 : tie.Need-returns-3 Inv-loop μ-loop
 returns-3 c =

@@ -1,6 +1,5 @@
 -- All sends are those counted and those of the lines from `at` on.
 use Prim.Native.Nat.{_+_, _-_, _≤_}
-use mathlib.Core.Option.{some}
 use mathlib.Core.Path.{_∙_, _≡_, ap, sym}
 use native.Mathlib.Nat.{zero-add}
 use native.Mathlib.Omega.{arith}
@@ -9,9 +8,7 @@ use borrow.Author.Needs.{needs}
 use lib.ListN.{drop, length}
 use Rattle.laws.specs.Masks.{count}
 use Rattle.text.specs.Lines.{linesOf}
-use Rattle.text.proofs.Cuts.{line-fits, line-some, lines-next, lines-past}
-use Rattle.text.proofs.Scan.{next}
-use Rattle.schedule.specs.Sends.{fits}
+use Rattle.text.proofs.Cuts.{Turn, lines-past, turn}
 use Rattle.schedule.proofs.Fits.{none-told, sent-told}
 use Rattle.contents.specs.Contents.{sendsIn, sendsOf}
 use Rattle.contents.proofs.Walk.{counted-end, counted-none, counted-some}
@@ -29,6 +26,11 @@ send-lines-requires c κs = search needs
 
 loop-holds : tie.Need-loop-holds Inv-loop μ-loop
 loop-holds c = (omega arith, omega arith, ap length (c .send-lines .ensures) ∙ sym (zero-add _))
+
+-- the line that is read
+here : (c : tie.After-first-line Inv-loop μ-loop)
+    → Turn (now (c .before .before .before .before .send-lines .result)) (now (c .first-line .result)) (c .before .before .before .loop .at)
+here c = turn _ _ _ (c .before .before .loop-test .taken) (c .first-line .ensures)
 
 sub-first-line : tie.Need-sub-first-line Inv-loop μ-loop
 sub-first-line c = search needs
@@ -56,41 +58,23 @@ enum-told-2 c = search needs
 
 returns : tie.Need-returns Inv-loop μ-loop
 returns c =
-    let lines = now (c .before .before .before .before .before .before .before .send-lines .result) in
+    let turn = here (c .before .before .before) in
     let l = c .before .before .before .before .before .before .loop in
-    let next = lines-next lines _ (l .at) (omega arith) (c .before .before .before .first-line .ensures)
-    (c .before .before .before .before .before .loop-test .taken) in
-    counted-none _ _ _ (l .inv .2) _ _ next (none-told _ (sym (c .enum-told2 .given .1) ∙ c .before .before .read-send .ensures))
+    counted-none _ _ _ (l .inv .2) _ _ (turn .next) (none-told _ (sym (c .enum-told2 .given .1) ∙ c .before .before .read-send .ensures))
 
 add-at : tie.Need-add-at Inv-loop μ-loop
-add-at c = omega (
-  arith,
-  line-fits (now (c .before .before .before .before .before .before .before .send-lines .result)) (now
-      (c .before .before .before .first-line .result)) (c .before .before .before .before .before .before .loop .at) (omega arith)
-      (c .before .before .before .first-line .ensures),
-)
+add-at c = omega (arith, here (c .before .before .before) .fits)
 
 loop-less : tie.Need-loop-less Inv-loop μ-loop
-loop-less c = omega (
-  arith,
-  line-some (now (c .before .before .before .before .before .before .before .send-lines .result)) (now
-      (c .before .before .before .first-line .result)) (c .before .before .before .before .before .before .loop .at) (omega arith)
-      (c .before .before .before .first-line .ensures) (c .before .before .before .before .before .loop-test .taken),
-)
+loop-less c = omega (arith, here (c .before .before .before) .further)
 
 loop-again : tie.Need-loop-again Inv-loop μ-loop
 loop-again c =
-    let lines = now (c .before .before .before .before .before .before .before .send-lines .result) in
+    let turn = here (c .before .before .before) in
     let l = c .before .before .before .before .before .before .loop in
-    let next = lines-next lines _ (l .at) (omega arith) (c .before .before .before .first-line .ensures)
-    (c .before .before .before .before .before .loop-test .taken) in
-    let fits = line-fits lines (now (c .before .before .before .first-line .result)) (l .at) (omega arith)
-    (c .before .before .before .first-line .ensures) in
-    let some = line-some lines (now (c .before .before .before .first-line .result)) (l .at) (omega arith)
-    (c .before .before .before .first-line .ensures) (c .before .before .before .before .before .loop-test .taken) in
     let told = sent-told (now (c .before .before .before .first-line .result)) _ _ _ (sym (c .enum-told .given .1)
     ∙ c .before .before .read-send .ensures) in
-    (fits, omega (arith, some), counted-some _ _ _ (l .inv .2) _ _ next _ (told .is))
+    (turn .fits, omega (arith, turn .further), counted-some _ _ _ (l .inv .2) _ _ (turn .next) _ (told .is))
 
 returns-2 : tie.Need-returns-2 Inv-loop μ-loop
 returns-2 c =

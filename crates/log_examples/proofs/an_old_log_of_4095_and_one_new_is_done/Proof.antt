@@ -1,8 +1,9 @@
 -- The promise of `close` for a node alone at the full log less one: with its next entry the log is full.
-use mathlib.Core.Path.{sym}
+use mathlib.Core.Path.{_≡_, sym}
 use native.Mathlib.Omega.{arith}
 use borrow.Author.Tests.{eq-eqb}
 use lib.Seq.{length-take-le}
+use Rattle.rules.specs.Sizes.{logMost}
 use Rattle.log_examples.proofs.Answers.{one-too-many}
 use Rattle.log_examples.proofs.Closes.{one-is-done}
 use borrow.Author.Needs.{needs}
@@ -32,23 +33,19 @@ slice-aggregate-close-2 c = search needs
 close-requires : tie.Need-close-requires
 close-requires c κs = search needs
 
+-- the close is done: the new log is full
+closed : (c : tie.After-close) → (c .close .result .number ≡ 0) × (c .close .result .length ≡ logMost)
+closed c =
+    let node = c .before .before .before .alone in
+    let own = c .before .before .before .before .batch-of-one in
+    let log = c .before .before .before .before .before .full-log-and-one in
+    one-is-done (log .result) (log .ensures) (own .result) (node .result) (node .ensures) _ _ _ (c .close .ensures) (own .ensures) (omega arith)
+
 expect-requires : tie.Need-expect-requires
-expect-requires c κs =
-    let d = c .before .before in
-    let node = d .before .before .before .alone in
-    let own = d .before .before .before .before .batch-of-one in
-    let log = d .before .before .before .before .before .full-log-and-one in
-    let l = one-is-done (log .result) (log .ensures) (own .result) (node .result) (node .ensures) _ _ _ (d .close .ensures) (own .ensures) (omega arith) in
-    eq-eqb _ _ (l .0)
+expect-requires c κs = eq-eqb _ _ (closed (c .before .before) .0)
 
 expect-requires-2 : tie.Need-expect-requires-2
-expect-requires-2 c κs =
-    let d = c .before .before .before .before in
-    let node = d .before .before .before .alone in
-    let own = d .before .before .before .before .batch-of-one in
-    let log = d .before .before .before .before .before .full-log-and-one in
-    let l = one-is-done (log .result) (log .ensures) (own .result) (node .result) (node .ensures) _ _ _ (d .close .ensures) (own .ensures) (omega arith) in
-    eq-eqb _ _ (l .1)
+expect-requires-2 c κs = eq-eqb _ _ (closed (c .before .before .before .before) .1)
 
 returns : tie.Need-returns
 returns c = search needs

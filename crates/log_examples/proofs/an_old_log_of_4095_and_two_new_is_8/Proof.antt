@@ -1,5 +1,5 @@
 -- The promise of `close` for a node alone at the full log less one: its next two entries are one too many.
-use mathlib.Core.Path.{sym}
+use mathlib.Core.Path.{_≡_, sym}
 use native.Mathlib.Omega.{arith}
 use borrow.Author.Tests.{eq-eqb}
 use lib.Seq.{length-take-le}
@@ -32,23 +32,19 @@ slice-aggregate-close-2 c = search needs
 close-requires : tie.Need-close-requires
 close-requires c κs = search needs
 
+-- the close is refused
+closed : (c : tie.After-close) → (c .close .result .number ≡ 8) × (c .close .result .length ≡ 0)
+closed c =
+    let node = c .before .before .before .alone in
+    let own = c .before .before .before .before .batch-of-two in
+    let log = c .before .before .before .before .before .full-log-and-one in
+    two-are-8 (log .result) (log .ensures) (own .result) (node .result) (node .ensures) _ _ _ (c .close .ensures) (own .ensures)
+
 expect-requires : tie.Need-expect-requires
-expect-requires c κs =
-    let d = c .before .before in
-    let node = d .before .before .before .alone in
-    let own = d .before .before .before .before .batch-of-two in
-    let log = d .before .before .before .before .before .full-log-and-one in
-    let l = two-are-8 (log .result) (log .ensures) (own .result) (node .result) (node .ensures) _ _ _ (d .close .ensures) (own .ensures) in
-    eq-eqb _ _ (l .0)
+expect-requires c κs = eq-eqb _ _ (closed (c .before .before) .0)
 
 expect-requires-2 : tie.Need-expect-requires-2
-expect-requires-2 c κs =
-    let d = c .before .before .before .before in
-    let node = d .before .before .before .alone in
-    let own = d .before .before .before .before .batch-of-two in
-    let log = d .before .before .before .before .before .full-log-and-one in
-    let l = two-are-8 (log .result) (log .ensures) (own .result) (node .result) (node .ensures) _ _ _ (d .close .ensures) (own .ensures) in
-    eq-eqb _ _ (l .1)
+expect-requires-2 c κs = eq-eqb _ _ (closed (c .before .before .before .before) .1)
 
 returns : tie.Need-returns
 returns c = search needs

@@ -75,9 +75,11 @@ advance-to-requires c κs =
     let a = c .before .before .before .before .before .before .before .before .before .before .args in
     let l = c .before .before .before .before .before .loop in
     let q = numbers c in (
-      c .before .before .before .before .before .before .before .before .before .before .pre,
-      c .before .before .before .before .before .before .before .before .faulty-mask .ensures,
-      l .inv .2,
+      record {
+        form = c .before .before .before .before .before .before .before .before .before .before .pre;
+        bits = c .before .before .before .before .before .before .before .before .faulty-mask .ensures;
+        stands = l .inv .2;
+      },
       omega (arith, q .0, l .inv .4 (c .before .before .before .before .loop-test .taken)),
       omega (arith, q .0, send-fits (now (a .s)) (a .n) (a .f) (c .before .before .before .before .before .before .before .before .before .before .pre) (l .k) (inside c) .round-most),
     )
@@ -149,8 +151,11 @@ add-advance-to c =
 
 advance-to-requires-2 : tie.Need-advance-to-requires-2 Inv-loop μ-loop
 advance-to-requires-2 c κs =
-    let l = c .before .loop in
-    (c .before .before .before .before .before .before .pre, c .before .before .before .before .faulty-mask .ensures, l .inv .2, omega (arith, l .inv .3), omega arith)
+    let l = c .before .loop in (
+      record { form = c .before .before .before .before .before .before .pre; bits = c .before .before .before .before .faulty-mask .ensures; stands = l .inv .2 },
+      omega (arith, l .inv .3),
+      omega arith,
+    )
 
 returns-3 : tie.Need-returns-3 Inv-loop μ-loop
 returns-3 c =

@@ -37,7 +37,7 @@ loop-holds c =
 next-node-requires : tie.Need-next-node-requires Inv-loop μ-loop
 next-node-requires c κs =
     let p = c .before .before .before .before .before .before .pre in
-    (omega arith, p .0, p .1, p .2, p .3)
+    (omega arith, p .0, p .1)
 
 mul-nodes : tie.Need-mul-nodes Inv-loop μ-loop
 mul-nodes c = search needs
@@ -72,7 +72,7 @@ add-t19 : tie.Need-add-t19 Inv-loop μ-loop
 add-t19 c =
     let a = c .before .before .before .before .before .before .before .args in
     let p = c .before .before .before .before .before .before .before .pre in
-    record { fits = omega (arith, p .3, nodes-above (now (a .s)) (a .n) (a .f) (p .0), nodes-most (now (a .s)) (a .n) (a .f) (p .0)) }
+    record { fits = omega (arith, p .1, nodes-above (now (a .s)) (a .n) (a .f) (p .0 .form), nodes-most (now (a .s)) (a .n) (a .f) (p .0 .form)) }
 
 returns : tie.Need-returns Inv-loop μ-loop
 returns c =

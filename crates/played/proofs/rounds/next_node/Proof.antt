@@ -12,7 +12,9 @@ no-node-requires c κs = search needs
 returns : tie.Need-returns
 returns c =
     let a = c .before .before .before .args in
-    beyond-all (now (a .s)) (a .n) (a .f) (c .before .before .before .pre .1) (a .faulty) (c .before .before .before .pre .2) (a .here) (c .before .before .before .pre .3) (a .i) (c .before .before .before .pre .0) _ (c .before .if1 .taken) (c .no-node .ensures)
+    let p = c .before .before .before .pre in
+    let here = p .1 in
+    beyond-all (now (a .s)) (a .n) (a .f) (here .form) (a .faulty) (here .bits) (a .here) (here .stands) (a .i) (p .0) _ (c .before .if1 .taken) (c .no-node .ensures)
 
 cast-if2 : tie.Need-cast-if2
 cast-if2 c = search needs
@@ -26,7 +28,9 @@ no-node-requires-2 c κs = search needs
 returns-2 : tie.Need-returns-2
 returns-2 c =
     let a = c .before .before .before .before .args in
-    is-faulty (now (a .s)) (a .n) (a .f) (c .before .before .before .before .pre .1) (a .faulty) (c .before .before .before .before .pre .2) (a .here) (c .before .before .before .before .pre .3) (a .i) (c .before .before .before .before .pre .0) _ (omega arith) (omega (arith, c .before .if2 .taken)) (c .no-node2 .ensures)
+    let p = c .before .before .before .before .pre in
+    let here = p .1 in
+    is-faulty (now (a .s)) (a .n) (a .f) (here .form) (a .faulty) (here .bits) (a .here) (here .stands) (a .i) (p .0) _ (omega arith) (omega (arith, c .before .if2 .taken)) (c .no-node2 .ensures)
 
 open-node-requires : tie.Need-open-node-requires
 open-node-requires c κs = search needs
@@ -34,7 +38,9 @@ open-node-requires c κs = search needs
 returns-3 : tie.Need-returns-3
 returns-3 c =
     let a = c .before .before .before .before .before .args in
-    opens (now (a .s)) (a .n) (a .f) (c .before .before .before .before .before .pre .1) (a .faulty) (c .before .before .before .before .before .pre .2) (a .here) (c .before .before .before .before .before .pre .3) (a .i) (c .before .before .before .before .before .pre .0) (omega arith) (c .before .before .if2 .left) _ (c .before .if3 .taken) (c .open-node .ensures)
+    let p = c .before .before .before .before .before .pre in
+    let here = p .1 in
+    opens (now (a .s)) (a .n) (a .f) (here .form) (a .faulty) (here .bits) (a .here) (here .stands) (a .i) (p .0) (omega arith) (c .before .before .if2 .left) _ (c .before .if3 .taken) (c .open-node .ensures)
 
 mul-node : tie.Need-mul-node
 mul-node c = search needs
@@ -45,12 +51,16 @@ array-copy-out-node c = search needs
 step-node-requires : tie.Need-step-node-requires
 step-node-requires c κs =
     let a = c .before .before .before .before .before .before .before .args in
-    (nodes-most (now (a .s)) (a .n) (a .f) (c .before .before .before .before .before .before .before .pre .1), short-here (now (a .s)) (a .n) (a .f) (c .before .before .before .before .before .before .before .pre .1) (a .faulty) (c .before .before .before .before .before .before .before .pre .2) (a .here) (c .before .before .before .before .before .before .before .pre .3))
+    let p = c .before .before .before .before .before .before .before .pre in
+    let here = p .1 in
+    (nodes-most (now (a .s)) (a .n) (a .f) (here .form), short-here (now (a .s)) (a .n) (a .f) (here .form) (a .faulty) (here .bits) (a .here) (here .stands))
 
 returns-4 : tie.Need-returns-4
 returns-4 c =
     let a = c .before .before .before .before .before .before .before .before .args in
-    steps (now (a .s)) (a .n) (a .f) (c .before .before .before .before .before .before .before .before .pre .1) (a .faulty) (c .before .before .before .before .before .before .before .before .pre .2) (a .here) (c .before .before .before .before .before .before .before .before .pre .3) (a .i) (c .before .before .before .before .before .before .before .before .pre .0) (omega arith) (c .before .before .before .before .before .if2 .left) _ (c .before .before .before .before .if3 .left) (c .step-node .ensures)
+    let p = c .before .before .before .before .before .before .before .before .pre in
+    let here = p .1 in
+    steps (now (a .s)) (a .n) (a .f) (here .form) (a .faulty) (here .bits) (a .here) (here .stands) (a .i) (p .0) (omega arith) (c .before .before .before .before .before .if2 .left) _ (c .before .before .before .before .if3 .left) (c .step-node .ensures)
 
 pub next-node-spec : {M : Type 1} → statement M
 next-node-spec =

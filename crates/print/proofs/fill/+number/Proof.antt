@@ -5,10 +5,10 @@ use mathlib.Core.Path.{_∙_, ap, sym}
 use native.Mathlib.Omega.{arith}
 use denote.Ref.{now}
 use borrow.Author.Needs.{needs}
-use lib.ListN.{length-set}
+use lib.ListN.{length, length-set}
 use Rattle.laws.specs.Parts.{onto}
 use Rattle.print.specs.Texts.{decimalOf}
-use Rattle.print.proofs.Printing.{decimal-small, decimal-step, onto-byte, onto-first, small-length, step-length}
+use Rattle.print.proofs.Printing.{byte-over, byte-room, decimal-small, decimal-step, onto-first, small-length, step-length, step-room}
 use Rattle.print.proofs.fill.+number.{statement}
 use borrow.Fn.Kinds.{In}
 use borrow.Fn.PlainCycle.{Measures, is, falls, and}
@@ -77,28 +77,14 @@ number-slice-write-output-2 : (t : ℕ) → number-lts.Need-slice-write-output-2
   number.Post,
 ) (number-at t) number.Post
 number-slice-write-output-2 t c =
-    let a = c .before .before .before .before .before .before .args in
-    let k = c .before .before .number in
-    omega (
-      arith,
-      k .ensures .0,
-      k .kept .0,
-      step-length (a .v) (c .before .before .before .before .if1 .left),
-      c .before .before .before .before .before .before .pre .1,
-    )
+    let start = c .before .before .before .before .before .before in
+    let v = start .args .v in
+    let room = step-room v _ (c .before .before .before .before .if1 .left) (start .pre .1) in
+    byte-room (decimalOf (v / 10)) (now (start .args .output)) (48 + v % 10) room (c .before .before .number .ensures)
 
 number-add-result :
     (t : ℕ) → number-lts.Need-add-result (number-below t, number.Post) (number-at t) number.Post
-number-add-result t c =
-    let a = c .before .before .before .before .before .before .args in
-    let k = c .before .before .number in
-    omega (
-      arith,
-      k .ensures .0,
-      k .kept .0,
-      step-length (a .v) (c .before .before .before .before .if1 .left),
-      c .before .before .before .before .before .before .pre .1,
-    )
+number-add-result t c = omega (arith, number-slice-write-output-2 t c)
 
 number-same-length-2 :
     (t : ℕ) →
@@ -110,18 +96,12 @@ number-same-length-2 t c =
 number-returns-2 :
     (t : ℕ) → number-lts.Need-returns-2 (number-below t, number.Post) (number-at t) number.Post
 number-returns-2 t c =
-    let a = c .before .before .before .before .before .before .args in
-    let k = c .before .before .number in
-    let h : 10 ≤ a .v = c .before .before .before .before .if1 .left in
-    let l = step-length (a .v) h in (
-      omega (arith, k .ensures .0, l),
-      onto-byte (decimalOf (a .v / 10)) (now (a .output)) (k .last .0) (k .result) (48 + a .v % 10) (k .ensures .0) (k .ensures .1) (omega (
-        arith,
-        l,
-        c .before .before .before .before .before .before .pre .1,
-      ))
-          ∙ ap (λ (w : List ℕ). onto w (now (a .output))) (sym (decimal-step (a .v) h)),
-    )
+    let start = c .before .before .before .before .before .before in
+    let v = start .args .v in
+    let h = c .before .before .before .before .if1 .left in
+    let wrote = byte-over (decimalOf (v / 10)) (now (start .args .output)) (48 + v % 10) (step-room v _ h (start .pre .1)) (c .before .before .number .ensures) in
+    let e = sym (decimal-step v h) in
+    (wrote .0 ∙ ap length e, wrote .1 ∙ ap (λ (w : List ℕ). onto w (now (start .args .output))) e)
 
 pub +number-spec : {M : Type 1} → statement M
 +number-spec =

@@ -1,44 +1,47 @@
 -- The first i items are written.
 use Prim.Native.Nat.{_-_, _≤_, ℕ}
 use mathlib.Core.List.{List, _∷_}
-use mathlib.Core.Path.{_∙_, _≡_, ap, refl, sym}
+use mathlib.Core.Path.{_∙_, ap, refl, sym}
 use native.Mathlib.Omega.{arith}
 use denote.Ref.{now}
 use borrow.Author.Needs.{needs}
 use lib.ListN.{getD, length, take}
 use Rattle.laws.specs.Parts.{onto}
+use Rattle.laws.proofs.Lent.{onto-length}
 use Rattle.text.specs.Places.{comma}
 use Rattle.print.specs.Texts.{itemText, moreText}
-use Rattle.print.proofs.Printing.{both-fit, both-kept, both-length, both-onto, more-room, more-turn, more-whole, part-room, part-start}
+use Rattle.print.specs.declared.Items.{Items}
+use Rattle.print.proofs.Printing.{Over, both-fit, both-over, more-part, more-room, more-turn, more-whole, part-room, part-start}
 use Rattle.print.proofs.fill.all_more.Statement.{statement}
 use Rattle.print.proofs.fill.all_more.Tie as tie
 
 abbrev Inv-loop : tie.InvT-loop
-Inv-loop output₀ kind xs at₀ i₀ output at i = (i ≤ length xs) × (length (moreText kind xs) ≤ length output₀) × (at ≡ length (moreText kind
-    (take i xs))) × (length output ≡ length output₀) × (output ≡ onto (moreText kind (take i xs)) output₀)
+Inv-loop output₀ kind xs at₀ i₀ output at i = (i ≤ length xs) × (length (moreText kind xs) ≤ length output₀) × Over (moreText kind (take i xs)) output₀
+    at output
 
 abbrev μ-loop : tie.MeasureT-loop
 μ-loop output₀ kind xs at₀ i₀ output at i = length xs - i
 
+-- the items that are written, and the next with its comma
+abbrev done : Items → List ℕ → ℕ → List ℕ
+done kind xs i = moreText kind (take i xs)
+
+abbrev next : Items → List ℕ → ℕ → List ℕ
+next kind xs i = comma ∷ itemText kind (getD xs i 0)
+
 loop-holds : tie.Need-loop-holds Inv-loop μ-loop
 unfolding moreText
-loop-holds c = (omega arith, c .before .before .pre, refl, refl, refl)
+loop-holds c = (omega arith, c .before .before .pre, (refl, refl))
 
 sub-more : tie.Need-sub-more Inv-loop μ-loop
 sub-more c =
     let a = c .before .before .before .before .args in
     let l = c .before .loop in
-    let h = more-room (a .kind) (now (a .xs)) (l .i) _ (l .inv .1) (omega arith) in
-    part-start (moreText (a .kind) (take (l .i) (now (a .xs)))) (comma ∷ itemText (a .kind) (getD (now (a .xs)) (l .i) 0)) (now (a .output))
-    (l .output) (l .at) h (l .inv .2) (l .inv .3)
+    let room = more-room (a .kind) (now (a .xs)) (l .i) _ (l .inv .1) (omega arith) in
+    part-start (done (a .kind) (now (a .xs)) (l .i)) (next (a .kind) (now (a .xs)) (l .i)) (now (a .output)) room (l .inv .2)
 
 part-more-start : tie.Need-part-more-start Inv-loop μ-loop
-part-more-start c =
-    let a = c .before .before .before .before .args in
-    let l = c .before .loop in
-    let h = more-room (a .kind) (now (a .xs)) (l .i) _ (l .inv .1) (omega arith) in
-    part-start (moreText (a .kind) (take (l .i) (now (a .xs)))) (comma ∷ itemText (a .kind) (getD (now (a .xs)) (l .i) 0)) (now (a .output))
-    (l .output) (l .at) h (l .inv .2) (l .inv .3)
+part-more-start c = sub-more c
 
 part-more-end : tie.Need-part-more-end Inv-loop μ-loop
 part-more-end c = search needs
@@ -53,19 +56,18 @@ more-requires : tie.Need-more-requires Inv-loop μ-loop
 more-requires c κs =
     let a = c .before .before .before .before .before .before .args in
     let l = c .before .before .before .loop in
-    let h = more-room (a .kind) (now (a .xs)) (l .i) _ (l .inv .1) (omega arith) in
-    part-room (moreText (a .kind) (take (l .i) (now (a .xs)))) (comma ∷ itemText (a .kind) (getD (now (a .xs)) (l .i) 0)) (now (a .output))
-    (l .output) (l .at) h (l .inv .2) (l .inv .3)
+    let room = more-room (a .kind) (now (a .xs)) (l .i) _ (l .inv .1) (omega arith) in
+    part-room (done (a .kind) (now (a .xs)) (l .i)) (next (a .kind) (now (a .xs)) (l .i)) (now (a .output)) room (l .inv .2)
 
 add-at : tie.Need-add-at Inv-loop μ-loop
 add-at c =
     let a = c .before .before .before .before .before .before .before .before .before .args in
     let l = c .before .before .before .before .before .before .loop in
-    let h = more-room (a .kind) (now (a .xs)) (l .i) _ (l .inv .1) (omega arith) in
+    let room = more-room (a .kind) (now (a .xs)) (l .i) _ (l .inv .1) (omega arith) in
     omega (
       arith,
-      both-fit (moreText (a .kind) (take (l .i) (now (a .xs)))) (comma ∷ itemText (a .kind) (getD (now (a .xs)) (l .i) 0)) (now
-          (a .output)) (l .output) (l .at) h (l .inv .2) (l .inv .3) _ (c .before .before .more .ensures .0),
+      both-fit (done (a .kind) (now (a .xs)) (l .i)) (next (a .kind) (now (a .xs)) (l .i)) (now (a .output)) room (l .inv .2)
+          (c .before .before .more .ensures),
     )
 
 add-i : tie.Need-add-i Inv-loop μ-loop
@@ -78,27 +80,25 @@ loop-again : tie.Need-loop-again Inv-loop μ-loop
 loop-again c =
     let a = c .before .before .before .before .before .before .before .before .before .args in
     let l = c .before .before .before .before .before .before .loop in
-    let v : List ℕ = moreText (a .kind) (take (l .i) (now (a .xs))) in
-    let w : List ℕ = comma ∷ itemText (a .kind) (getD (now (a .xs)) (l .i) 0) in
-    let h = more-room (a .kind) (now (a .xs)) (l .i) _ (l .inv .1) (omega arith) in
-    let e = sym (more-turn (a .kind) (now (a .xs)) (l .i) (omega arith)) in (
-      omega arith,
-      l .inv .1,
-      both-length v w (now (a .output)) (l .output) (l .at) h (l .inv .2) (l .inv .3) _ (c .before .before .more .ensures .0) ∙ ap length e,
-      both-kept v w (now (a .output)) (l .output) (l .at) h (l .inv .2) (l .inv .3) (l .inv .4) _ (c .before .before .more .ensures .1),
-      both-onto v w (now (a .output)) (l .output) (l .at) h (l .inv .2) (l .inv .3) (l .inv .4) _ (c .before .before .more .ensures .1)
-          ∙ ap (λ (t : List ℕ). onto t (now (a .output))) e,
-    )
+    let room = more-room (a .kind) (now (a .xs)) (l .i) _ (l .inv .1) (omega arith) in
+    let both = both-over (done (a .kind) (now (a .xs)) (l .i)) (next (a .kind) (now (a .xs)) (l .i)) (now (a .output)) room (l .inv .2)
+    (c .before .before .more .ensures) in
+    let e = sym (more-turn (a .kind) (now (a .xs)) (l .i) (omega arith)) in
+    (omega arith, l .inv .1, (both .0 ∙ ap length e, both .1 ∙ ap (λ (t : List ℕ). onto t (now (a .output))) e))
 
 same-length : tie.Need-same-length Inv-loop μ-loop
-same-length c = c .before .loop .inv .3
+same-length c =
+    let a = c .before .before .before .before .args in
+    let l = c .before .loop in
+    let part = more-part (a .kind) (now (a .xs)) (l .i) in
+    ap length (l .inv .2 .1) ∙ onto-length (done (a .kind) (now (a .xs)) (l .i)) (now (a .output)) (omega (arith, part, l .inv .1))
 
 returns : tie.Need-returns Inv-loop μ-loop
 returns c =
     let a = c .before .before .before .before .args in
     let l = c .before .loop in
     let e = more-whole (a .kind) (now (a .xs)) (l .i) (omega arith) in
-    (l .inv .2 ∙ ap length e, l .inv .4 ∙ ap (λ (w : List ℕ). onto w (now (a .output))) e)
+    (l .inv .2 .0 ∙ ap length e, l .inv .2 .1 ∙ ap (λ (w : List ℕ). onto w (now (a .output))) e)
 
 pub all-more-spec : {M : Type 1} → statement M
 all-more-spec =

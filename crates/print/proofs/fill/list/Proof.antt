@@ -9,7 +9,7 @@ use lib.ListN.{drop, getD, length, take}
 use Rattle.laws.specs.Parts.{onto}
 use Rattle.print.specs.Texts.{itemText, moreText}
 use Rattle.print.specs.declared.Items.{Items}
-use Rattle.print.proofs.Printing.{both-fit, both-kept, both-length, both-onto, left-fits, list-none, list-room, list-some, part-room, part-start}
+use Rattle.print.proofs.Printing.{both-fit, both-kept, both-over, left-fits, list-none, list-room, list-some, part-room, part-start}
 use Rattle.print.proofs.fill.list.Statement.{statement}
 use Rattle.print.proofs.fill.list.Tie as tie
 
@@ -32,24 +32,18 @@ shared-slice-read-item c = search needs
 item-requires : tie.Need-item-requires
 item-requires c κs =
     let a = c .before .before .before .before .before .args in
-    left-fits (front (a .kind) (now (a .xs))) (back (a .kind) (now (a .xs))) _ (list-room (a .kind) (now (a .xs)) _ (c .before .before .if1 .left)
-    (c .before .before .before .before .before .pre))
+    let room = list-room (a .kind) (now (a .xs)) _ (c .before .before .if1 .left) (c .before .before .before .before .before .pre) in
+    left-fits (front (a .kind) (now (a .xs))) (back (a .kind) (now (a .xs))) _ room
 
 sub-all-more : tie.Need-sub-all-more
 sub-all-more c =
-    let a = c .before .before .before .before .before .before .before .before .args in
-    let k = c .before .before .item in
-    part-start (front (a .kind) (now (a .xs))) (back (a .kind) (now (a .xs))) (now (a .output)) (k .last .0) (k .result) (list-room (a .kind) (now
-    (a .xs)) _ (c .before .before .before .before .before .if1 .left) (c .before .before .before .before .before .before .before .before .pre))
-    (k .ensures .0) (k .kept .0)
+    let some = c .before .before .before .before .before in
+    let a = some .before .before .before .args in
+    let room = list-room (a .kind) (now (a .xs)) _ (some .if1 .left) (some .before .before .before .pre) in
+    part-start (front (a .kind) (now (a .xs))) (back (a .kind) (now (a .xs))) (now (a .output)) room (c .before .before .item .ensures)
 
 part-all-more-start : tie.Need-part-all-more-start
-part-all-more-start c =
-    let a = c .before .before .before .before .before .before .before .before .args in
-    let k = c .before .before .item in
-    part-start (front (a .kind) (now (a .xs))) (back (a .kind) (now (a .xs))) (now (a .output)) (k .last .0) (k .result) (list-room (a .kind) (now
-    (a .xs)) _ (c .before .before .before .before .before .if1 .left) (c .before .before .before .before .before .before .before .before .pre))
-    (k .ensures .0) (k .kept .0)
+part-all-more-start c = sub-all-more c
 
 part-all-more-end : tie.Need-part-all-more-end
 part-all-more-end c = search needs
@@ -65,45 +59,43 @@ part-all-more-end-2 c = search needs
 
 all-more-requires : tie.Need-all-more-requires
 all-more-requires c κs =
-    let a = c .before .before .before .before .before .before .before .before .before .before .args in
-    let k = c .before .before .before .before .item in
-    part-room (front (a .kind) (now (a .xs))) (back (a .kind) (now (a .xs))) (now (a .output)) (k .last .0) (k .result) (list-room (a .kind) (now
-    (a .xs)) _ (c .before .before .before .before .before .before .before .if1 .left)
-    (c .before .before .before .before .before .before .before .before .before .before .pre)) (k .ensures .0) (k .kept .0)
+    let wrote = c .before .before .before .before in
+    let some = wrote .before .before .before in
+    let a = some .before .before .before .args in
+    let room = list-room (a .kind) (now (a .xs)) _ (some .if1 .left) (some .before .before .before .pre) in
+    part-room (front (a .kind) (now (a .xs))) (back (a .kind) (now (a .xs))) (now (a .output)) room (wrote .item .ensures)
 
 add-result : tie.Need-add-result
 add-result c =
-    let a = c .before .before .before .before .before .before .before .before .before .before .before .before .before .args in
-    let k = c .before .before .before .before .before .before .before .item in
+    let wrote = c .before .before .before .before .before .before .before in
+    let some = wrote .before .before .before in
+    let a = some .before .before .before .args in
+    let room = list-room (a .kind) (now (a .xs)) _ (some .if1 .left) (some .before .before .before .pre) in
     omega (
       arith,
-      both-fit (front (a .kind) (now (a .xs))) (back (a .kind) (now (a .xs))) (now (a .output)) (k .last .0) (k .result) (list-room
-          (a .kind) (now (a .xs)) _ (c .before .before .before .before .before .before .before .before .before .before .if1 .left)
-          (c .before .before .before .before .before .before .before .before .before .before .before .before .before .pre)) (k .ensures .0) (k .kept .0) _
-          (c .before .before .all-more .ensures .0),
+      both-fit (front (a .kind) (now (a .xs))) (back (a .kind) (now (a .xs))) (now (a .output)) room (wrote .item .ensures)
+          (c .before .before .all-more .ensures),
     )
 
 same-length : tie.Need-same-length
 same-length c =
-    let a = c .before .before .before .before .before .before .before .before .before .before .before .before .before .args in
-    let k = c .before .before .before .before .before .before .before .item in
-    both-kept (front (a .kind) (now (a .xs))) (back (a .kind) (now (a .xs))) (now (a .output)) (k .last .0) (k .result) (list-room (a .kind) (now
-    (a .xs)) _ (c .before .before .before .before .before .before .before .before .before .before .if1 .left)
-    (c .before .before .before .before .before .before .before .before .before .before .before .before .before .pre)) (k .ensures .0) (k .kept .0)
-    (k .ensures .1) _ (c .before .before .all-more .ensures .1)
+    let wrote = c .before .before .before .before .before .before .before in
+    let some = wrote .before .before .before in
+    let a = some .before .before .before .args in
+    let room = list-room (a .kind) (now (a .xs)) _ (some .if1 .left) (some .before .before .before .pre) in
+    both-kept (front (a .kind) (now (a .xs))) (back (a .kind) (now (a .xs))) (now (a .output)) room (wrote .item .ensures)
+    (c .before .before .all-more .ensures)
 
 returns-2 : tie.Need-returns-2
 returns-2 c =
-    let a = c .before .before .before .before .before .before .before .before .before .before .before .before .before .args in
-    let k = c .before .before .before .before .before .before .before .item in
-    let h = list-room (a .kind) (now (a .xs)) _ (c .before .before .before .before .before .before .before .before .before .before .if1 .left)
-    (c .before .before .before .before .before .before .before .before .before .before .before .before .before .pre) in
-    let e = sym (list-some (a .kind) (now (a .xs)) (c .before .before .before .before .before .before .before .before .before .before .if1 .left)) in (
-      both-length (front (a .kind) (now (a .xs))) (back (a .kind) (now (a .xs))) (now (a .output)) (k .last .0) (k .result) h (k .ensures .0)
-          (k .kept .0) _ (c .before .before .all-more .ensures .0) ∙ ap length e,
-      both-onto (front (a .kind) (now (a .xs))) (back (a .kind) (now (a .xs))) (now (a .output)) (k .last .0) (k .result) h (k .ensures .0)
-          (k .kept .0) (k .ensures .1) _ (c .before .before .all-more .ensures .1) ∙ ap (λ (t : List ℕ). onto t (now (a .output))) e,
-    )
+    let wrote = c .before .before .before .before .before .before .before in
+    let some = wrote .before .before .before in
+    let a = some .before .before .before .args in
+    let room = list-room (a .kind) (now (a .xs)) _ (some .if1 .left) (some .before .before .before .pre) in
+    let both = both-over (front (a .kind) (now (a .xs))) (back (a .kind) (now (a .xs))) (now (a .output)) room (wrote .item .ensures)
+    (c .before .before .all-more .ensures) in
+    let e = sym (list-some (a .kind) (now (a .xs)) (some .if1 .left)) in
+    (both .0 ∙ ap length e, both .1 ∙ ap (λ (t : List ℕ). onto t (now (a .output))) e)
 
 pub list-spec : {M : Type 1} → statement M
 list-spec =

@@ -6,31 +6,24 @@ use denote.Ref.{now}
 use lib.ListN.{length-set}
 use Rattle.text.specs.Places.{lf}
 use Rattle.print.specs.Texts.{listText}
-use Rattle.print.proofs.Printing.{byte-length, byte-onto, byte-room, left-fits}
+use Rattle.print.proofs.Printing.{byte-over, byte-room, left-fits}
 use Rattle.print.proofs.fill.list_then_lf.Statement.{statement}
 use Rattle.print.proofs.fill.list_then_lf.Tie as tie
 
 list-requires : tie.Need-list-requires
 list-requires c κs =
-    let a = c .before .before .before .args in
-    left-fits (listText (a .kind) (now (a .xs))) (lf ∷ []) _ (c .before .before .before .pre)
+    let start = c .before .before .before in
+    left-fits (listText (start .args .kind) (now (start .args .xs))) (lf ∷ []) _ (start .pre)
 
 slice-write-output : tie.Need-slice-write-output
 slice-write-output c =
-    let a = c .before .before .before .before .before .before .args in
-    let k = c .before .before .list in
-    byte-room (listText (a .kind) (now (a .xs))) (now (a .output)) (k .last .0) (k .result) lf
-    (c .before .before .before .before .before .before .pre) (k .ensures .0) (k .kept .0)
+    let start = c .before .before .before .before .before .before in
+    byte-room (listText (start .args .kind) (now (start .args .xs))) (now (start .args .output)) lf (start .pre) (c .before .before .list .ensures)
 
 add-result : tie.Need-add-result
 add-result c =
-    let a = c .before .before .before .before .before .before .args in
-    let k = c .before .before .list in
-    omega (
-      arith,
-      byte-room (listText (a .kind) (now (a .xs))) (now (a .output)) (k .last .0) (k .result) lf
-          (c .before .before .before .before .before .before .pre) (k .ensures .0) (k .kept .0),
-    )
+    let start = c .before .before .before .before .before .before in
+    omega (arith, byte-room (listText (start .args .kind) (now (start .args .xs))) (now (start .args .output)) lf (start .pre) (c .before .before .list .ensures))
 
 same-length : tie.Need-same-length
 same-length c =
@@ -39,13 +32,8 @@ same-length c =
 
 returns : tie.Need-returns
 returns c =
-    let a = c .before .before .before .before .before .before .args in
-    let k = c .before .before .list in (
-      byte-length (listText (a .kind) (now (a .xs))) (now (a .output)) (k .last .0) (k .result) lf
-          (c .before .before .before .before .before .before .pre) (k .ensures .0) (k .kept .0),
-      byte-onto (listText (a .kind) (now (a .xs))) (now (a .output)) (k .last .0) (k .result) lf
-          (c .before .before .before .before .before .before .pre) (k .ensures .0) (k .kept .0) (k .ensures .1),
-    )
+    let start = c .before .before .before .before .before .before in
+    byte-over (listText (start .args .kind) (now (start .args .xs))) (now (start .args .output)) lf (start .pre) (c .before .before .list .ensures)
 
 pub list-then-lf-spec : {M : Type 1} → statement M
 list-then-lf-spec =

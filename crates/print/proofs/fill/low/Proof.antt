@@ -6,7 +6,7 @@ use denote.Ref.{now}
 use borrow.Author.Needs.{needs}
 use Rattle.text.specs.Places.{dot}
 use Rattle.print.specs.Texts.{decimalOf}
-use Rattle.print.proofs.Printing.{both-fit, both-kept, both-length, both-onto, left-fits, part-room, part-start}
+use Rattle.print.proofs.Printing.{both-fit, both-kept, both-over, left-fits, part-room, part-start}
 use Rattle.print.proofs.fill.low.Statement.{statement}
 use Rattle.print.proofs.fill.low.Tie as tie
 
@@ -19,68 +19,44 @@ back x = decimalOf (x % 2 ^ 32)
 
 number-then-requires : tie.Need-number-then-requires
 number-then-requires c κs =
-    let a = c .before .before .args in
-    left-fits (front (a .x)) (back (a .x)) _ (c .before .before .pre)
+    let start = c .before .before in
+    left-fits (front (start .args .x)) (back (start .args .x)) _ (start .pre)
 
 sub-number : tie.Need-sub-number
 sub-number c =
-    let a = c .before .before .before .before .before .args in
-    part-start (front (a .x)) (back (a .x)) (now (a .output)) (c .before .before .number-then .last .0) (c .before .before .number-then .result)
-    (c .before .before .before .before .before .pre) (c .before .before .number-then .ensures .0) (c .before .before .number-then .kept .0)
+    let wrote = c .before .before in
+    let start = wrote .before .before .before in
+    part-start (front (start .args .x)) (back (start .args .x)) (now (start .args .output)) (start .pre) (wrote .number-then .ensures)
 
 part-number-start : tie.Need-part-number-start
-part-number-start c =
-    let a = c .before .before .before .before .before .args in
-    part-start (front (a .x)) (back (a .x)) (now (a .output)) (c .before .before .number-then .last .0) (c .before .before .number-then .result)
-    (c .before .before .before .before .before .pre) (c .before .before .number-then .ensures .0) (c .before .before .number-then .kept .0)
+part-number-start c = sub-number c
 
 part-number-end : tie.Need-part-number-end
 part-number-end c = search needs
 
 number-requires : tie.Need-number-requires
 number-requires c κs =
-    let a = c .before .before .before .before .before .before .args in
-    part-room (front (a .x)) (back (a .x)) (now (a .output)) (c .before .before .before .number-then .last .0)
-    (c .before .before .before .number-then .result) (c .before .before .before .before .before .before .pre)
-    (c .before .before .before .number-then .ensures .0) (c .before .before .before .number-then .kept .0)
+    let wrote = c .before .before .before in
+    let start = wrote .before .before .before in
+    part-room (front (start .args .x)) (back (start .args .x)) (now (start .args .output)) (start .pre) (wrote .number-then .ensures)
 
 add-result : tie.Need-add-result
 add-result c =
-    let a = c .before .before .before .before .before .before .before .before .before .args in
-    omega (
-      arith,
-      both-fit (front (a .x)) (back (a .x)) (now (a .output)) (c .before .before .before .before .before .before .number-then .last .0)
-          (c .before .before .before .before .before .before .number-then .result)
-          (c .before .before .before .before .before .before .before .before .before .pre)
-          (c .before .before .before .before .before .before .number-then .ensures .0)
-          (c .before .before .before .before .before .before .number-then .kept .0) _ (c .before .before .number .ensures .0),
-    )
+    let wrote = c .before .before .before .before .before .before in
+    let start = wrote .before .before .before in
+    omega (arith, both-fit (front (start .args .x)) (back (start .args .x)) (now (start .args .output)) (start .pre) (wrote .number-then .ensures) (c .before .before .number .ensures))
 
 same-length : tie.Need-same-length
 same-length c =
-    let a = c .before .before .before .before .before .before .before .before .before .args in
-    both-kept (front (a .x)) (back (a .x)) (now (a .output)) (c .before .before .before .before .before .before .number-then .last .0)
-    (c .before .before .before .before .before .before .number-then .result)
-    (c .before .before .before .before .before .before .before .before .before .pre)
-    (c .before .before .before .before .before .before .number-then .ensures .0)
-    (c .before .before .before .before .before .before .number-then .kept .0)
-    (c .before .before .before .before .before .before .number-then .ensures .1) _ (c .before .before .number .ensures .1)
+    let wrote = c .before .before .before .before .before .before in
+    let start = wrote .before .before .before in
+    both-kept (front (start .args .x)) (back (start .args .x)) (now (start .args .output)) (start .pre) (wrote .number-then .ensures) (c .before .before .number .ensures)
 
 returns : tie.Need-returns
 returns c =
-    let a = c .before .before .before .before .before .before .before .before .before .args in (
-      both-length (front (a .x)) (back (a .x)) (now (a .output)) (c .before .before .before .before .before .before .number-then .last .0)
-          (c .before .before .before .before .before .before .number-then .result)
-          (c .before .before .before .before .before .before .before .before .before .pre)
-          (c .before .before .before .before .before .before .number-then .ensures .0)
-          (c .before .before .before .before .before .before .number-then .kept .0) _ (c .before .before .number .ensures .0),
-      both-onto (front (a .x)) (back (a .x)) (now (a .output)) (c .before .before .before .before .before .before .number-then .last .0)
-          (c .before .before .before .before .before .before .number-then .result)
-          (c .before .before .before .before .before .before .before .before .before .pre)
-          (c .before .before .before .before .before .before .number-then .ensures .0)
-          (c .before .before .before .before .before .before .number-then .kept .0)
-          (c .before .before .before .before .before .before .number-then .ensures .1) _ (c .before .before .number .ensures .1),
-    )
+    let wrote = c .before .before .before .before .before .before in
+    let start = wrote .before .before .before in
+    both-over (front (start .args .x)) (back (start .args .x)) (now (start .args .output)) (start .pre) (wrote .number-then .ensures) (c .before .before .number .ensures)
 
 pub low-spec : {M : Type 1} → statement M
 low-spec =

@@ -1,17 +1,14 @@
 -- The answer for the whole is the answer for the lines from `at` on, of which the first is line k.
 use Prim.Native.Nat.{_+_, _-_, _≤_}
-use mathlib.Core.Option.{some}
 use mathlib.Core.Path.{_∙_, _≡_, ap, refl, sym}
 use native.Mathlib.Omega.{arith}
 use denote.Ref.{now}
 use borrow.Author.Needs.{needs}
 use lib.ListN.{drop, length}
 use Rattle.text.specs.Lines.{linesOf}
-use Rattle.text.proofs.Cuts.{line-fits, line-last, line-not-last, line-some, lines-next, lines-past}
-use Rattle.text.proofs.Scan.{next}
+use Rattle.text.proofs.Cuts.{Turn, line-last, line-not-last, lines-past, turn}
 use Rattle.schedule.specs.Forms.{formSends}
 use Rattle.schedule.specs.Header.{headerSize}
-use Rattle.schedule.specs.Sends.{fits}
 use Rattle.schedule.proofs.Turns.{sends-bad, sends-end, sends-go, sends-good, sends-more}
 use Rattle.schedule.proofs.forms.form_sends.Statement.{statement}
 use Rattle.schedule.proofs.forms.form_sends.Tie as tie
@@ -32,6 +29,11 @@ add-k-2 c = omega (arith, c .before .before .pre)
 loop-holds : tie.Need-loop-holds Inv-loop μ-loop
 loop-holds c = (omega arith, omega (arith, c .before .before .pre), refl)
 
+-- the line that is read
+here : (c : tie.After-first-line Inv-loop μ-loop)
+    → Turn (now (c .before .before .before .before .before .before .args .s)) (now (c .first-line .result)) (c .before .before .before .loop .at)
+here c = turn _ _ _ (c .before .before .loop-test .taken) (c .first-line .ensures)
+
 sub-rest : tie.Need-sub-rest Inv-loop μ-loop
 sub-rest c = search needs
 
@@ -51,10 +53,9 @@ returns : tie.Need-returns Inv-loop μ-loop
 returns c =
     let a = c .before .before .before .before .before .before .before .before .before .args in
     let l = c .before .before .before .before .before .before .loop in
-    let next = lines-next (now (a .s)) _ (l .at) (omega arith) (c .before .before .before .first-line .ensures)
-    (c .before .before .before .before .before .loop-test .taken) in
+    let turn = here (c .before .before .before) in
     let last = line-last (now (a .s)) _ (l .at) (omega arith) (c .before .before .before .first-line .ensures) (c .if2 .taken) in
-    sym (l .inv .2 ∙ ap (formSends (a .h) (l .k) (l .last)) next ∙ sends-good (a .h) (l .k) (l .last) _ _ (sym (c .before .before .is-end .ensures)
+    sym (l .inv .2 ∙ ap (formSends (a .h) (l .k) (l .last)) (turn .next) ∙ sends-good (a .h) (l .k) (l .last) _ _ (sym (c .before .before .is-end .ensures)
     ∙ c .before .if1 .taken) last)
 
 add-t15 : tie.Need-add-t15 Inv-loop μ-loop
@@ -64,10 +65,9 @@ returns-2 : tie.Need-returns-2 Inv-loop μ-loop
 returns-2 c =
     let a = c .before .before .before .before .before .before .before .before .before .args in
     let l = c .before .before .before .before .before .before .loop in
-    let next = lines-next (now (a .s)) _ (l .at) (omega arith) (c .before .before .before .first-line .ensures)
-    (c .before .before .before .before .before .loop-test .taken) in
+    let turn = here (c .before .before .before) in
     let more = line-not-last (now (a .s)) _ (l .at) (omega arith) (c .before .before .before .first-line .ensures) (c .if2 .left) in
-    sym (l .inv .2 ∙ ap (formSends (a .h) (l .k) (l .last)) next ∙ sends-more (a .h) (l .k) (l .last) _ _ (sym (c .before .before .is-end .ensures)
+    sym (l .inv .2 ∙ ap (formSends (a .h) (l .k) (l .last)) (turn .next) ∙ sends-more (a .h) (l .k) (l .last) _ _ (sym (c .before .before .is-end .ensures)
     ∙ c .before .if1 .taken) more)
 
 send-rank-requires : tie.Need-send-rank-requires Inv-loop μ-loop
@@ -77,48 +77,28 @@ returns-3 : tie.Need-returns-3 Inv-loop μ-loop
 returns-3 c =
     let a = c .before .before .before .before .before .before .before .before .before .before .args in
     let l = c .before .before .before .before .before .before .before .loop in
-    let next = lines-next (now (a .s)) _ (l .at) (omega arith) (c .before .before .before .before .first-line .ensures)
-    (c .before .before .before .before .before .before .loop-test .taken) in
-    sym (l .inv .2 ∙ ap (formSends (a .h) (l .k) (l .last)) next
+    let turn = here (c .before .before .before .before) in
+    sym (l .inv .2 ∙ ap (formSends (a .h) (l .k) (l .last)) (turn .next)
     ∙ sends-bad (a .h) (l .k) (l .last) _ _ _ (c .before .send-rank .ensures) (sym (c .before .before .before .is-end .ensures)
     ∙ c .before .before .if1 .left) (omega arith))
 
 add-at : tie.Need-add-at Inv-loop μ-loop
-add-at c =
-    let a = c .before .before .before .before .before .before .before .before .before .before .args in
-    let l = c .before .before .before .before .before .before .before .loop in
-    omega (
-      arith,
-      line-fits (now (a .s)) (now (c .before .before .before .before .first-line .result)) (l .at) (omega arith)
-          (c .before .before .before .before .first-line .ensures),
-    )
+add-at c = omega (arith, here (c .before .before .before .before) .fits)
 
 add-k-3 : tie.Need-add-k-3 Inv-loop μ-loop
 add-k-3 c = search needs
 
 loop-less : tie.Need-loop-less Inv-loop μ-loop
-loop-less c =
-    let a = c .before .before .before .before .before .before .before .before .before .before .args in
-    let l = c .before .before .before .before .before .before .before .loop in
-    omega (
-      arith,
-      line-some (now (a .s)) (now (c .before .before .before .before .first-line .result)) (l .at) (omega arith)
-          (c .before .before .before .before .first-line .ensures) (c .before .before .before .before .before .before .loop-test .taken),
-    )
+loop-less c = omega (arith, here (c .before .before .before .before) .further)
 
 loop-again : tie.Need-loop-again Inv-loop μ-loop
 loop-again c =
     let a = c .before .before .before .before .before .before .before .before .before .before .args in
     let l = c .before .before .before .before .before .before .before .loop in
-    let fits = line-fits (now (a .s)) (now (c .before .before .before .before .first-line .result)) (l .at) (omega arith)
-    (c .before .before .before .before .first-line .ensures) in
-    let some = line-some (now (a .s)) (now (c .before .before .before .before .first-line .result)) (l .at) (omega arith)
-    (c .before .before .before .before .first-line .ensures) (c .before .before .before .before .before .before .loop-test .taken) in
-    let next = lines-next (now (a .s)) _ (l .at) (omega arith) (c .before .before .before .before .first-line .ensures)
-    (c .before .before .before .before .before .before .loop-test .taken) in (
-      fits,
-      omega (arith, some),
-      l .inv .2 ∙ ap (formSends (a .h) (l .k) (l .last)) next
+    let turn = here (c .before .before .before .before) in (
+      turn .fits,
+      omega (arith, turn .further),
+      l .inv .2 ∙ ap (formSends (a .h) (l .k) (l .last)) (turn .next)
           ∙ sends-go (a .h) (l .k) (l .last) _ _ _ (c .before .send-rank .ensures) (sym (c .before .before .before .is-end .ensures)
           ∙ c .before .before .if1 .left) (omega arith),
     )
