@@ -9,7 +9,7 @@ use lib.Dec.{eqb, leb, ltb}
 use lib.ListN.{List·getD-append, drop, getD, length, length-append, take}
 use lib.Seq.{append-snoc, drop-at, take-append-seam}
 use Rattle.laws.proofs.Tests.{both, other}
-use Rattle.text.specs.Numbers.{decimal, digitOf, digitsBelow, entryAs, entryIn, fieldOf, halfMost, numberOf, valueFrom, wordMost}
+use Rattle.text.specs.Numbers.{decimal, digitOf, digitsBelow, entryAs, entryIn, fieldOf, halfMost, numberIn, valueFrom, wordMost}
 use Rattle.text.specs.Places.{dot, past, placeOf}
 use Rattle.text.specs.declared.Number.the-variants.{Value}
 use Rattle.text.proofs.Digits.{digit-under}
@@ -83,8 +83,8 @@ lead-case : (ds : List ℕ) (t : Bool) → leb 2 (length ds) ≡ t → (2 ≤ le
 lead-case ds true e f = let q : 48 < getD ds 0 0 = f (leb-true _ _ e) in let n : getD ds 0 0 ≡ 48 → ⊥ = λ z. omega arith in simp (ne-eqb _ _ n)
 lead-case ds false e f = refl
 
-pub number-back : (most v : ℕ) → v ≤ most → numberOf most (decimalOf v) ≡ Value v
-unfolding numberOf decimal decimalOf
+pub number-back : (most v : ℕ) → v ≤ most → numberIn most (decimalOf v) ≡ Value v
+unfolding numberIn decimal decimalOf
 number-back most v h =
     let g = fine-in (suc v) v (omega arith) in
     let a = lead-case (digitsIn (suc v) v) (leb 2 (length (digitsIn (suc v) v))) refl (g .lead) in
@@ -122,7 +122,7 @@ module _ (v most : ℕ) (h : v ≤ most) (t : List ℕ) where
   front-back =
       let l : placeOf dot text < length text = omega (arith, place-is, ap length text-is, length-append (decimalOf v) (dot ∷ t)) in
       simp (lt-ltb (placeOf dot text) (length text) l)
-      (ap (numberOf most) (ap₂ take place-is text-is ∙ take-append-seam (decimalOf v) (dot ∷ t)) ∙ number-back most v h)
+      (ap (numberIn most) (ap₂ take place-is text-is ∙ take-append-seam (decimalOf v) (dot ∷ t)) ∙ number-back most v h)
 
   rest-back : past dot ((decimalOf v ++ (dot ∷ [])) ++ t) ≡ t
   unfolding text
@@ -137,9 +137,9 @@ entry-back x h =
     let r = rest-back (x / 2 ^ 48) halfMost (omega arith) (lowText x) in
     let b : fieldOf dot halfMost (past dot (entryText x)) ≡ Value (x / 2 ^ 32 % 2 ^ 16) =
     ap (fieldOf dot halfMost) r ∙ front-back (x / 2 ^ 32 % 2 ^ 16) halfMost (omega arith) (decimalOf (x % 2 ^ 32)) in
-    let d : numberOf wordMost (past dot (past dot (entryText x))) ≡ Value (x % 2 ^ 32) =
-    ap (λ (t : List ℕ). numberOf wordMost (past dot t)) r
-    ∙ ap (numberOf wordMost) (rest-back (x / 2 ^ 32 % 2 ^ 16) halfMost (omega arith) (decimalOf (x % 2 ^ 32)))
+    let d : numberIn wordMost (past dot (past dot (entryText x))) ≡ Value (x % 2 ^ 32) =
+    ap (λ (t : List ℕ). numberIn wordMost (past dot t)) r
+    ∙ ap (numberIn wordMost) (rest-back (x / 2 ^ 32 % 2 ^ 16) halfMost (omega arith) (decimalOf (x % 2 ^ 32)))
     ∙ number-back wordMost (x % 2 ^ 32) (omega arith) in
     let sum : x / 2 ^ 48 * 2 ^ 48 + x / 2 ^ 32 % 2 ^ 16 * 2 ^ 32 + x % 2 ^ 32 ≡ x = omega arith in
     simp (a, b, d) (ap Value sum)

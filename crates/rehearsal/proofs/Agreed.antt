@@ -29,7 +29,7 @@ use Rattle.schedule.specs.Forms.{formOf}
 use Rattle.schedule.specs.declared.Form.the-variants.{Good}
 use Rattle.contents.specs.Contents.{isFaulty, entriesOfTray}
 use Rattle.played.specs.Playing.{hallOf, breach}
-use Rattle.report.specs.Logs.{logOf as printedLog}
+use Rattle.report.specs.Logs.{madeLog}
 use Rattle.report.specs.Signing.{nodesThat}
 use Rattle.report.specs.Lines.{allLines}
 use Rattle.report.proofs.Made.{new-log-most, makes-log}
@@ -71,7 +71,7 @@ module _ (s : List ℕ) (n f : ℕ) (good : formOf s ≡ Good n f) (kept : breac
         omega (arith, a, b)
 
     -- the log that is printed is the one that its close makes
-    pub printed : printedLog (last i) ≡ logOf hall i
+    pub printed : madeLog (last i) ≡ logOf hall i
     printed = makes-log (last i) sound-last rounds-over
 
     -- and the close does make one
@@ -92,7 +92,7 @@ module _ (s : List ℕ) (n f : ℕ) (good : formOf s ≡ Good n f) (kept : breac
   many = many-correct n f (isFaulty s) (G .few) (G .above)
 
   module _ (log : List ℕ) (one : OneLog hall log) where
-    its-log : (i : ℕ) → i < n → isFaulty s i ≡ false → printedLog (last i) ≡ log
+    its-log : (i : ℕ) → i < n → isFaulty s i ≡ false → madeLog (last i) ≡ log
     its-log i l e = let ci : Correct hall i = record { node = l; fine = e } in printed i ci ∙ one .same i ci
 
     one-text : playedText s n f 0 ≡ oneText s n f log (correctNodes s n)

@@ -15,7 +15,7 @@ use Rattle.played.specs.Playing.{breachFrom, breach}
 use Rattle.print.specs.Texts.{decimalOf, digitsIn, itemText, moreText, listText}
 use Rattle.rehearsal.specs.Rehearsal.{playedText, formText, rehearsalOf}
 use Rattle.report.specs.Lines.{linesText, allLines}
-use Rattle.report.specs.Logs.{logOf}
+use Rattle.report.specs.Logs.{madeLog}
 use Rattle.report.specs.Marks.{placeIn, distinct}
 use Rattle.report.specs.Signing.{nodesThat}
 use Rattle.report.specs.Spoken.{slotWith}
@@ -34,7 +34,7 @@ use Rattle.step.specs.Step.{stepNumber}
 use Rattle.text.specs.Hex.{hexOf, isHex, pairsOf}
 use Rattle.text.specs.Lines.{keyed, linesOf, listLine, numberLine}
 use Rattle.text.specs.Lists.{ahead, andItem, belowAs, checked, itemOf, itemsOf, listOf, split}
-use Rattle.text.specs.Numbers.{decimal, digitOf, digitsBelow, entryAs, entryIn, fieldOf, numberOf, valueFrom}
+use Rattle.text.specs.Numbers.{decimal, digitOf, digitsBelow, entryAs, entryIn, fieldOf, numberIn, valueFrom}
 use Rattle.text.specs.Places.{placeOf as place-of-byte}
 use Rattle.tray.specs.Trays.{soundTray}
 use Rattle.wire.specs.Inbox.{placeOf, messageOf, wellCut, inboxBytes}
@@ -56,9 +56,9 @@ printed =
     ∷ 115 ∷ 105 ∷ 103 ∷ 110 ∷ 101 ∷ 114 ∷ 115 ∷ 61 ∷ 49 ∷ 44 ∷ 50 ∷ 10 ∷ []
 
 not-bad : (formOf document ≡ Good 3 1) × (breach document 3 1 ≡ 0)
-unfolding maskOf sized isBatch place-of-byte digitOf digitsBelow valueFrom decimal numberOf fieldOf entryAs entryIn ahead split belowAs itemOf andItem itemsOf checked listOf linesOf keyed numberLine listLine isHex pairsOf hexOf withNodes withFaults withFaulty withLine andThen headFrom sendAs sendIn sendOf headerAs itemsIn isFaultyKey faultyLine faultyIn sendThen sendsIn sendsOf messageIn numbered fitting rankIn isEnd found isTray formSends formTrays formAfter formOf sizes fits isLog every gather shows opened accepted passedOn takenUp keeps newly passesOn decision decisions ones entryOf entryBytes entriesOf entriesBytes unreadable recordBytes votesAfter votesOf messageBytes messageOf wellCut inboxBytes soundTray soundBatch soundKept keptRight soundNode openNumber stepNumber after outbox closeNumber handed hasSent breaksRule count signer signersOf enough slotIn signersNumber formText playedText breachFrom linesText allLines decimalOf digitsIn itemText moreText listText logOf placeIn distinct slotWith nodesThat placeOf
+unfolding maskOf sized isBatch place-of-byte digitOf digitsBelow valueFrom decimal numberIn fieldOf entryAs entryIn ahead split belowAs itemOf andItem itemsOf checked listOf linesOf keyed numberLine listLine isHex pairsOf hexOf withNodes withFaults withFaulty withLine andThen headFrom sendAs sendIn sendOf headerAs itemsIn isFaultyKey faultyLine faultyIn sendThen sendsIn sendsOf messageIn numbered fitting rankIn isEnd found isTray formSends formTrays formAfter formOf sizes fits isLog every gather shows opened accepted passedOn takenUp keeps newly passesOn decision decisions ones entryOf entryBytes entriesOf entriesBytes unreadable recordBytes votesAfter votesOf messageBytes messageOf wellCut inboxBytes soundTray soundBatch soundKept keptRight soundNode openNumber stepNumber after outbox closeNumber handed hasSent breaksRule count signer signersOf enough slotIn signersNumber formText playedText breachFrom linesText allLines decimalOf digitsIn itemText moreText listText madeLog placeIn distinct slotWith nodesThat placeOf
 not-bad = (refl, refl)
 
 prints : rehearsalOf document ≡ printed
-unfolding maskOf sized isBatch place-of-byte digitOf digitsBelow valueFrom decimal numberOf fieldOf entryAs entryIn ahead split belowAs itemOf andItem itemsOf checked listOf linesOf keyed numberLine listLine isHex pairsOf hexOf withNodes withFaults withFaulty withLine andThen headFrom sendAs sendIn sendOf headerAs itemsIn isFaultyKey faultyLine faultyIn sendThen sendsIn sendsOf messageIn numbered fitting rankIn isEnd found isTray formSends formTrays formAfter formOf sizes fits isLog every gather shows opened accepted passedOn takenUp keeps newly passesOn decision decisions ones entryOf entryBytes entriesOf entriesBytes unreadable recordBytes votesAfter votesOf messageBytes messageOf wellCut inboxBytes soundTray soundBatch soundKept keptRight soundNode openNumber stepNumber after outbox closeNumber handed hasSent breaksRule count signer signersOf enough slotIn signersNumber formText playedText breachFrom linesText allLines decimalOf digitsIn itemText moreText listText logOf placeIn distinct slotWith nodesThat placeOf
+unfolding maskOf sized isBatch place-of-byte digitOf digitsBelow valueFrom decimal numberIn fieldOf entryAs entryIn ahead split belowAs itemOf andItem itemsOf checked listOf linesOf keyed numberLine listLine isHex pairsOf hexOf withNodes withFaults withFaulty withLine andThen headFrom sendAs sendIn sendOf headerAs itemsIn isFaultyKey faultyLine faultyIn sendThen sendsIn sendsOf messageIn numbered fitting rankIn isEnd found isTray formSends formTrays formAfter formOf sizes fits isLog every gather shows opened accepted passedOn takenUp keeps newly passesOn decision decisions ones entryOf entryBytes entriesOf entriesBytes unreadable recordBytes votesAfter votesOf messageBytes messageOf wellCut inboxBytes soundTray soundBatch soundKept keptRight soundNode openNumber stepNumber after outbox closeNumber handed hasSent breaksRule count signer signersOf enough slotIn signersNumber formText playedText breachFrom linesText allLines decimalOf digitsIn itemText moreText listText madeLog placeIn distinct slotWith nodesThat placeOf
 prints = refl

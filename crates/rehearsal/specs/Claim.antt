@@ -14,7 +14,7 @@ use Rattle.schedule.specs.Forms.{formOf}
 use Rattle.schedule.specs.declared.Form.the-variants.{Good}
 use Rattle.contents.specs.Contents.{isFaulty, entriesOfTray}
 use Rattle.played.specs.Playing.{hallOf, breach}
-use Rattle.report.specs.Logs.{logOf as madeLog}
+use Rattle.report.specs.Logs.{madeLog}
 use Rattle.report.specs.Marks.{markAt}
 use Rattle.report.specs.Spoken.{slotsAt}
 use Rattle.report.specs.Signing.{nodesThat}

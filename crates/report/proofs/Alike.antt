@@ -8,7 +8,7 @@ use Rattle.laws.specs.Members.{among}
 use Rattle.rules.specs.Signers.{Mark}
 use Rattle.rules.proofs.Inbox.{gather-same}
 use Rattle.node.specs.declared.Node.{Node}
-use Rattle.report.specs.Logs.{logOf}
+use Rattle.report.specs.Logs.{madeLog}
 use Rattle.report.specs.Marks.{placeIn, markWith, distinct, numberAt, markAt}
 use Rattle.report.specs.Spoken.{slotWith, slotsWith}
 use Rattle.report.specs.Signing.{hasBit, nodesThat, countedWith, signersAt}
@@ -64,4 +64,4 @@ module _ (n : ℕ) (t u : ℕ → Bool) (faulty : (j : ℕ) → j < n → t j �
 
   -- of nodes that are in the same states, where correct
   pub same-nodes : (node other : ℕ → Node) → ((j : ℕ) → j < n → t j ≡ false → node j ≡ other j) → (f : ℕ) → reportOf n f t node ≡ reportOf n f u other
-  same-nodes node other e f = ap linesText (report-same (λ j. logOf (node j)) (λ j. logOf (other j)) (λ j l p. ap logOf (e j l p)) f)
+  same-nodes node other e f = ap linesText (report-same (λ j. madeLog (node j)) (λ j. madeLog (other j)) (λ j l p. ap madeLog (e j l p)) f)

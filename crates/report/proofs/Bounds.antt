@@ -19,7 +19,7 @@ use Rattle.print.specs.Texts.{decimalOf, listText, lineText}
 use Rattle.print.specs.declared.Items.the-variants.{Nodes, Entries}
 use Rattle.print.proofs.Lengths.{decimal-bound, line-length, entries-most, nodes-most}
 use Rattle.schedule.specs.Keys.{nodesKey, faultsKey}
-use Rattle.report.specs.Logs.{logOf}
+use Rattle.report.specs.Logs.{madeLog}
 use Rattle.report.specs.Signing.{nodesThat, signersAt}
 use Rattle.report.specs.Lines.{linesText, nodeKey, logKey, signersKey, sizesLines, nodeLines, allLines}
 use Rattle.report.specs.Report.{reportOf, textMost}
@@ -111,11 +111,11 @@ sizes-most n f l m =
       decimal-bound 1 f (omega arith),
     )
 
-pub report-most : (n f : ℕ) (t : ℕ → Bool) (node : ℕ → Node) → n ≤ nodesMost → f ≤ nodesMost → ((i : ℕ) → i < n → t i ≡ false → AreEntries (logOf (node i)))
+pub report-most : (n f : ℕ) (t : ℕ → Bool) (node : ℕ → Node) → n ≤ nodesMost → f ≤ nodesMost → ((i : ℕ) → i < n → t i ≡ false → AreEntries (madeLog (node i)))
     → length (reportOf n f t node) ≤ textMost
 report-most n f t node l m h =
-    let log : ℕ → List ℕ = λ i. logOf (node i) in
-    let nodes = all-most t log (signersAt n f t log) n l (λ i k p. (log-text-most (logOf (node i)) (h i k p) (log-most (node i)), signers-text-most _ n l)) in
+    let log : ℕ → List ℕ = λ i. madeLog (node i) in
+    let nodes = all-most t log (signersAt n f t log) n l (λ i k p. (log-text-most (madeLog (node i)) (h i k p) (log-most (node i)), signers-text-most _ n l)) in
     omega (
       arith,
       ap length (lines-append (sizesLines n f) (allLines t log (signersAt n f t log) n)),

@@ -30,7 +30,7 @@ use Rattle.tray.proofs.Sound.{batch-parts}
 use Rattle.closing.specs.Close.{newLogOf, closeNumber, Close}
 use Rattle.closing.specs.Gather.{decidedMost}
 use Rattle.closing.specs.declared.Closed.{Closed}
-use Rattle.report.specs.Logs.{logOf}
+use Rattle.report.specs.Logs.{madeLog}
 use Rattle.report.specs.Signing.{hasBit}
 use Rattle.report.specs.Held.{heldAs, heldAt, logIn, AllFit, AllHeld, AllEntries}
 use Rattle.report.specs.declared.logs.HeldLog.{HeldLog}
@@ -38,8 +38,8 @@ use Rattle.report.specs.declared.logs.HeldLog.{HeldLog}
 -- ---- one log
 
 pub close-holds : (s : Node) (r : Closed) (after : List ℕ) → Close s [] (replicate decidedMost 0) r after
-    → _≡_ {A = HeldLog} (record { count = r .length; entries = after }) (heldAs (logOf s))
-unfolding logOf
+    → _≡_ {A = HeldLog} (record { count = r .length; entries = after }) (heldAs (madeLog s))
+unfolding madeLog
 close-holds s r after h =
     let e : r .length ≡ length (ifDone (closeNumber s [] decidedMost) (newLogOf s []) []) = h .size ∙ done-length (closeNumber s [] decidedMost) (newLogOf s []) in
     let p : after ≡ onto (ifDone (closeNumber s [] decidedMost) (newLogOf s []) []) (replicate decidedMost 0) =
@@ -59,8 +59,8 @@ room-passed s room h =
     let d = row-passed 7 (fits (newLogOf s [])) room-row c .1 in
     leb-true (length (newLogOf s [])) room (row-passed 8 (leb (length (newLogOf s [])) room) 0 d .0)
 
-pub log-most : (s : Node) → length (logOf s) ≤ decidedMost
-unfolding logOf
+pub log-most : (s : Node) → length (madeLog s) ≤ decidedMost
+unfolding madeLog
 log-most s = go (closeNumber s [] decidedMost) refl
   where
     go : (row : ℕ) → closeNumber s [] decidedMost ≡ row → length (ifDone row (newLogOf s []) []) ≤ decidedMost
@@ -148,8 +148,8 @@ module _ (s : Node) (sound : soundNode s ≡ true) where
   new-log-most = omega (arith, decisions-most (s .n) (sound-sizes s sound .most), sound-sizes s sound .most)
 
   -- it is the empty log joined with all n decisions
-  pub makes-log : s .f + 2 ≤ s .phase → logOf s ≡ newLogOf s []
-  unfolding logOf closeNumber isLog fits
+  pub makes-log : s .f + 2 ≤ s .phase → madeLog s ≡ newLogOf s []
+  unfolding madeLog closeNumber isLog fits
   makes-log over =
       let l : length (newLogOf s []) ≤ 4096 = omega (arith, new-log-most) in
       simp (sound, le-leb _ _ over, le-leb _ _ l, le-leb _ _ new-log-most)

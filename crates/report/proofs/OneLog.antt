@@ -23,7 +23,7 @@ use Rattle.rules.specs.Signers.{Mark, Slot, speaks, signer, signersOf, enough}
 use Rattle.node.specs.declared.Node.{Node}
 use Rattle.signing.specs.Slots.{slotSize, slotIn, slotOf}
 use Rattle.signing.specs.Count.{signersNumber}
-use Rattle.report.specs.Logs.{logOf}
+use Rattle.report.specs.Logs.{madeLog}
 use Rattle.report.specs.Marks.{placeIn, markWith, distinct, numberAt, markAt}
 use Rattle.report.specs.Spoken.{slotWith, slotsAt}
 use Rattle.report.specs.Signing.{hasBit, nodesThat, countedWith, signersAt}
@@ -123,9 +123,9 @@ many-correct n f t few above = omega (arith, count-not t n)
 
 -- the whole text of a run whose correct nodes all made this log
 pub one-report : (n f : ℕ) (t : ℕ → Bool) (node : ℕ → Node) (one : List ℕ) → ((i : ℕ) → i < n → t i ≡ false → sizes n f i ≡ true) → f + 1 ≤ count (λ (j : ℕ). not (t j)) n
-    → ((i : ℕ) → i < n → t i ≡ false → logOf (node i) ≡ one)
+    → ((i : ℕ) → i < n → t i ≡ false → madeLog (node i) ≡ one)
     → reportOf n f t node ≡ linesText (sizesLines n f ++ allLines t (λ (i : ℕ). one) (λ (i : ℕ). nodesThat (λ (j : ℕ). not (t j)) n) n)
 one-report n f t node one sized many all =
     ap (λ ls. linesText (sizesLines n f ++ ls))
-    (lines-same n t t (λ j l. refl) (λ (i : ℕ). logOf (node i)) (λ (i : ℕ). one) (signersAt n f t (λ (i : ℕ). logOf (node i))) (λ (i : ℕ). nodesThat (λ (j : ℕ). not (t j)) n) all
-    (λ i l e. one-signers n t (λ (i : ℕ). logOf (node i)) one all i l e f (sized i l e) many))
+    (lines-same n t t (λ j l. refl) (λ (i : ℕ). madeLog (node i)) (λ (i : ℕ). one) (signersAt n f t (λ (i : ℕ). madeLog (node i))) (λ (i : ℕ). nodesThat (λ (j : ℕ). not (t j)) n) all
+    (λ i l e. one-signers n t (λ (i : ℕ). madeLog (node i)) one all i l e f (sized i l e) many))

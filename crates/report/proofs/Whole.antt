@@ -13,7 +13,7 @@ use Rattle.rules.specs.Sizes.{nodesMost}
 use Rattle.entries.specs.Bytes.{AreEntries}
 use Rattle.node.specs.declared.Node.{Node}
 use Rattle.signing.specs.Slots.{slotSize}
-use Rattle.report.specs.Logs.{logOf}
+use Rattle.report.specs.Logs.{madeLog}
 use Rattle.report.specs.Marks.{markWith, markAt}
 use Rattle.report.specs.Spoken.{slotsWith, slotsAt}
 use Rattle.report.specs.Signing.{hasBit, nodesThat, countedWith, signersBy, signersAt}
@@ -33,8 +33,8 @@ pub too-many : (n f faulty : ℕ) (nodes : List Node) (text : List ℕ) → node
 too-many n f faulty nodes text h = record { writes = λ l. absurd (omega arith); most = λ l. absurd (omega arith); nothing = λ l. refl; untouched = λ l. refl }
 
 pub as-report : (n f faulty : ℕ) (nodes : List Node) (text : List ℕ) (r : ℕ) (after : List ℕ) → n ≤ nodesMost
-    → Writes (linesText (reportLines n f (hasBit faulty) (λ i. logOf (nodeAt nodes i)))) text r after
-    → AllEntries (hasBit faulty) (λ i. logOf (nodeAt nodes i)) n → Reports n f faulty nodes text r after
+    → Writes (linesText (reportLines n f (hasBit faulty) (λ i. madeLog (nodeAt nodes i)))) text r after
+    → AllEntries (hasBit faulty) (λ i. madeLog (nodeAt nodes i)) n → Reports n f faulty nodes text r after
 as-report n f faulty nodes text r after l w e = record { writes = λ m. w; most = λ m k. report-most n f (hasBit faulty) (nodeAt nodes) m k e; nothing = λ m. absurd (omega arith); untouched = λ m. absurd (omega arith) }
 
 -- what is held of 64-bit numbers is the log

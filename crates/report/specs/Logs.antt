@@ -7,5 +7,5 @@ use Rattle.closing.specs.Close.{newLogOf, closeNumber}
 use Rattle.closing.specs.Gather.{decidedMost}
 
 -- the log that a node makes by its close, on an empty old log and with room for all decisions; empty where the close is refused
-unfoldable pub logOf : Node → List ℕ
-logOf s = ifDone (closeNumber s [] decidedMost) (newLogOf s []) []
+unfoldable pub madeLog : Node → List ℕ
+madeLog s = ifDone (closeNumber s [] decidedMost) (newLogOf s []) []

@@ -8,13 +8,13 @@ use Rattle.laws.specs.Parts.{onto}
 use Rattle.node.specs.State.{nodeAt}
 use Rattle.rules.specs.Sizes.{nodesMost}
 use Rattle.node.specs.declared.Node.{Node}
-use Rattle.report.specs.Logs.{logOf}
+use Rattle.report.specs.Logs.{madeLog}
 use Rattle.report.specs.Signing.{hasBit}
 use Rattle.report.specs.Lines.{linesText, reportLines}
 
 -- the whole text; node i: the state of node i after round f + 1, where it is correct
 abbrev pub reportOf : (n f : ℕ) (faulty : ℕ → Bool) (node : ℕ → Node) → List ℕ
-reportOf n f faulty node = linesText (reportLines n f faulty (λ (i : ℕ). logOf (node i)))
+reportOf n f faulty node = linesText (reportLines n f faulty (λ (i : ℕ). madeLog (node i)))
 
 -- bytes of a report, at most: 6,144 for each of sixteen nodes
 abbrev pub textMost : ℕ

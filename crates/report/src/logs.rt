@@ -5,7 +5,7 @@ ghost use mathlib.Core.List.{[]};
 ghost use Prim.Native.Nat.{_<_, _≤_};
 ghost use lib.ListN.{set};
 ghost use Rattle.rules.specs.Sizes.{nodesMost};
-ghost use Rattle.report.specs.Logs.{logOf};
+ghost use Rattle.report.specs.Logs.{madeLog};
 ghost use Rattle.node.specs.State.{nodeAt};
 ghost use Rattle.report.specs.Signing.{hasBit};
 ghost use Rattle.report.specs.Held.{AllHeld, heldAs};
@@ -32,7 +32,7 @@ pub(crate) fn has_bit(mask: u16, j: usize) -> bool
 
 // The log that a node makes.
 fn log_of(node: Node) -> HeldLog
-    ensures { λ r. ⌜ r ≡ heldAs (logOf node) ⌝ }
+    ensures { λ r. ⌜ r ≡ heldAs (madeLog node) ⌝ }
 {
     let mut entries = [0u64; MADE_MOST];
     let closed = closing::close(node, &[], &mut entries);
@@ -45,7 +45,7 @@ fn log_of(node: Node) -> HeldLog
 // The logs held, with that of node i where it is correct.
 fn with_log(logs: [HeldLog; NODES_MOST], faulty: u16, i: usize, node: Node) -> [HeldLog; NODES_MOST]
     requires { ⌜ i < nodesMost ⌝ }
-    ensures { λ r. ⌜ r ≡ cond (hasBit faulty i) logs (set logs i (heldAs (logOf node))) ⌝ }
+    ensures { λ r. ⌜ r ≡ cond (hasBit faulty i) logs (set logs i (heldAs (madeLog node))) ⌝ }
 {
     if has_bit(faulty, i) {
         return logs;
@@ -58,7 +58,7 @@ fn with_log(logs: [HeldLog; NODES_MOST], faulty: u16, i: usize, node: Node) -> [
 // The log of each correct node.
 pub(crate) fn close_all(n: usize, faulty: u16, nodes: [Node; NODES_MOST]) -> [HeldLog; NODES_MOST]
     requires { ⌜ n ≤ nodesMost ⌝ }
-    ensures { λ r. ⌜ AllHeld (hasBit faulty) (λ j. logOf (nodeAt nodes j)) n r ⌝ }
+    ensures { λ r. ⌜ AllHeld (hasBit faulty) (λ j. madeLog (nodeAt nodes j)) n r ⌝ }
 {
     let none = HeldLog {
         count: 0,

@@ -7,7 +7,7 @@ use Rattle.rules.specs.Sizes.{isBatch, sized}
 use Rattle.text.specs.Hex.{hexOf, isHex, pairsOf}
 use Rattle.text.specs.Lines.{keyed, linesOf, listLine, numberLine}
 use Rattle.text.specs.Lists.{ahead, andItem, belowAs, checked, itemOf, itemsOf, listOf, split}
-use Rattle.text.specs.Numbers.{decimal, digitOf, digitsBelow, entryAs, entryIn, fieldOf, numberOf, valueFrom}
+use Rattle.text.specs.Numbers.{decimal, digitOf, digitsBelow, entryAs, entryIn, fieldOf, numberIn, valueFrom}
 use Rattle.text.specs.Places.{placeOf}
 use Rattle.schedule.specs.Forms.{formAfter, formOf, formSends, formTrays, found, isEnd, isTray}
 use Rattle.schedule.specs.Header.{andThen, headFrom, withFaults, withFaulty, withLine, withNodes}
@@ -78,7 +78,7 @@ header-forms :
     × (formOf (n-three ++ f-one ++ (102 ∷ 97 ∷ 117 ∷ 108 ∷ 116 ∷ 121 ∷ 61 ∷ 48 ∷ 44 ∷ 49 ∷ 10 ∷ []) ++ tray-none ++ tray-forty ++ tray-sixty ++ send-seventy ++ the-end) ≡ Bad 3)
     -- a node that is not there
     × (formOf (n-three ++ f-one ++ (102 ∷ 97 ∷ 117 ∷ 108 ∷ 116 ∷ 121 ∷ 61 ∷ 51 ∷ 10 ∷ []) ++ tray-none ++ tray-forty ++ tray-sixty ++ send-seventy ++ the-end) ≡ Bad 3)
-unfolding maskOf sized isBatch placeOf digitOf digitsBelow valueFrom decimal numberOf fieldOf entryAs entryIn ahead split belowAs itemOf andItem itemsOf checked listOf linesOf keyed numberLine listLine isHex pairsOf hexOf withNodes withFaults withFaulty withLine andThen headFrom sendAs sendIn sendOf fitting rankIn isEnd found isTray formSends formTrays formAfter formOf
+unfolding maskOf sized isBatch placeOf digitOf digitsBelow valueFrom decimal numberIn fieldOf entryAs entryIn ahead split belowAs itemOf andItem itemsOf checked listOf linesOf keyed numberLine listLine isHex pairsOf hexOf withNodes withFaults withFaulty withLine andThen headFrom sendAs sendIn sendOf fitting rankIn isEnd found isTray formSends formTrays formAfter formOf
 header-forms = (refl, refl, refl, refl, refl, refl, refl, refl, refl, refl, refl, refl)
 
 -- ---- the trays
@@ -94,7 +94,7 @@ tray-forms :
     × (formOf (n-three ++ f-one ++ faulty-zero ++ tray-none ++ (116 ∷ 114 ∷ 97 ∷ 121 ∷ 61 ∷ 49 ∷ 46 ∷ 53 ∷ 46 ∷ 52 ∷ 48 ∷ 44 ∷ 49 ∷ 46 ∷ 53 ∷ 46 ∷ 52 ∷ 48 ∷ 10 ∷ []) ++ tray-sixty ++ send-seventy ++ the-end) ≡ Bad 5)
     -- a tray line is missing
     × (formOf (n-three ++ f-one ++ faulty-zero ++ tray-none ++ tray-forty ++ send-seventy ++ the-end) ≡ Bad 6)
-unfolding maskOf sized isBatch placeOf digitOf digitsBelow valueFrom decimal numberOf fieldOf entryAs entryIn ahead split belowAs itemOf andItem itemsOf checked listOf linesOf keyed numberLine listLine isHex pairsOf hexOf withNodes withFaults withFaulty withLine andThen headFrom sendAs sendIn sendOf fitting rankIn isEnd found isTray formSends formTrays formAfter formOf
+unfolding maskOf sized isBatch placeOf digitOf digitsBelow valueFrom decimal numberIn fieldOf entryAs entryIn ahead split belowAs itemOf andItem itemsOf checked listOf linesOf keyed numberLine listLine isHex pairsOf hexOf withNodes withFaults withFaulty withLine andThen headFrom sendAs sendIn sendOf fitting rankIn isEnd found isTray formSends formTrays formAfter formOf
 tray-forms = (refl, refl, refl, refl, refl)
 
 -- ---- the sends and the end
@@ -130,5 +130,5 @@ send-forms :
     × (formOf (n-three ++ f-one ++ faulty-zero ++ tray-none ++ tray-forty ++ tray-sixty ++ send-seventy ++ the-end ++ (120 ∷ [])) ≡ Bad 9)
     -- a line after the end
     × (formOf (n-three ++ f-one ++ faulty-zero ++ tray-none ++ tray-forty ++ tray-sixty ++ send-seventy ++ the-end ++ the-end) ≡ Bad 9)
-unfolding maskOf sized isBatch placeOf digitOf digitsBelow valueFrom decimal numberOf fieldOf entryAs entryIn ahead split belowAs itemOf andItem itemsOf checked listOf linesOf keyed numberLine listLine isHex pairsOf hexOf withNodes withFaults withFaulty withLine andThen headFrom sendAs sendIn sendOf fitting rankIn isEnd found isTray formSends formTrays formAfter formOf
+unfolding maskOf sized isBatch placeOf digitOf digitsBelow valueFrom decimal numberIn fieldOf entryAs entryIn ahead split belowAs itemOf andItem itemsOf checked listOf linesOf keyed numberLine listLine isHex pairsOf hexOf withNodes withFaults withFaulty withLine andThen headFrom sendAs sendIn sendOf fitting rankIn isEnd found isTray formSends formTrays formAfter formOf
 send-forms = (refl, refl, refl, refl, refl, refl, refl, refl, refl, refl, refl, refl, refl, refl, refl)

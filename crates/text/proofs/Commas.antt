@@ -14,7 +14,7 @@ use Rattle.laws.specs.Order.{ascends, ascendsFrom}
 use Rattle.rules.specs.Sizes.{batchMost, isBatch}
 use Rattle.rules.proofs.Firsts.{room}
 use Rattle.text.specs.Lists.{ahead, andItem, belowAs, checked, itemOf, itemsOf, listOf, listedAs, split}
-use Rattle.text.specs.Numbers.{numberOf, wordMost}
+use Rattle.text.specs.Numbers.{numberIn, wordMost}
 use Rattle.text.specs.Places.{comma, placeOf}
 use Rattle.text.specs.declared.Kind.{Kind}
 use Rattle.text.specs.declared.Kind.the-variants.{Below}
@@ -85,11 +85,11 @@ last-snoc d (y ∷ xs) x = last-snoc y xs x
 -- ---- numbers below n
 
 module _ (n : ℕ) (s : List ℕ) where
-  pub below-none : numberOf wordMost s ≡ NoNumber → itemOf (Below n) s ≡ NoNumber
+  pub below-none : numberIn wordMost s ≡ NoNumber → itemOf (Below n) s ≡ NoNumber
   unfolding itemOf belowAs
   below-none e = simp e
 
-  module _ (v : ℕ) (e : numberOf wordMost s ≡ Value v) where
+  module _ (v : ℕ) (e : numberIn wordMost s ≡ Value v) where
     pub below-over : n ≤ v → itemOf (Below n) s ≡ NoNumber
     unfolding itemOf belowAs
     below-over h = simp (e, le-ltb _ _ h)

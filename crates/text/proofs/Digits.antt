@@ -8,7 +8,7 @@ use borrow.Author.Tests.{le-leb, le-ltb, leb-true, lt-leb, lt-ltb}
 use lib.Dec.{eqb, leb, ltb}
 use lib.ListN.{drop, drop-of-length-le, getD, length, take}
 use Rattle.laws.proofs.Tests.{zero-one}
-use Rattle.text.specs.Numbers.{decimal, digitOf, digitsBelow, entryAs, entryIn, fieldOf, halfMost, leadingZero, numberOf, valueFrom, wordMost}
+use Rattle.text.specs.Numbers.{decimal, digitOf, digitsBelow, entryAs, entryIn, fieldOf, halfMost, leadingZero, numberIn, valueFrom, wordMost}
 use Rattle.text.specs.Places.{dot, past, placeOf, upTo}
 use Rattle.text.specs.declared.Number.{Number}
 use Rattle.text.specs.declared.Number.the-variants.{NoNumber, Value}
@@ -73,16 +73,16 @@ unfoldable pub numberFrom : ℕ → ℕ → List ℕ → Number
 numberFrom most v t = cond (digitsBelow 10 t && leb (valueFrom v t) most) (Value (valueFrom v t)) NoNumber
 
 module _ (most : ℕ) (s : List ℕ) where
-  pub number-none : length s ≡ 0 → numberOf most s ≡ NoNumber
-  unfolding numberOf decimal
+  pub number-none : length s ≡ 0 → numberIn most s ≡ NoNumber
+  unfolding numberIn decimal
   number-none e = let l : length s < 1 = omega arith in simp (lt-leb _ _ l)
 
-  pub number-zero : leadingZero s ≡ true → numberOf most s ≡ NoNumber
-  unfolding numberOf decimal
+  pub number-zero : leadingZero s ≡ true → numberIn most s ≡ NoNumber
+  unfolding numberIn decimal
   number-zero e = simp (e, and-false)
 
-  pub number-start : (length s ≡ 0 → ⊥) → leadingZero s ≡ false → numberOf most s ≡ numberFrom most 0 s
-  unfolding numberOf decimal numberFrom
+  pub number-start : (length s ≡ 0 → ⊥) → leadingZero s ≡ false → numberIn most s ≡ numberFrom most 0 s
+  unfolding numberIn decimal numberFrom
   number-start n e = let l : 1 ≤ length s = omega arith in simp (e, le-leb _ _ l)
 
 value-le : (v : ℕ) (t : List ℕ) → v ≤ valueFrom v t
@@ -113,8 +113,8 @@ unfolding numberFrom valueFrom digitsBelow
 number-end most v s i h o = ap (numberFrom most v) (drop-of-length-le s {i = i} h) ∙ simp (le-leb _ _ o)
 
 -- a number that was read is no more than it may be
-pub number-small : (most : ℕ) (s : List ℕ) (v : ℕ) → Value v ≡ numberOf most s → v ≤ most
-unfolding numberOf
+pub number-small : (most : ℕ) (s : List ℕ) (v : ℕ) → Value v ≡ numberIn most s → v ≤ most
+unfolding numberIn
 number-small most s v e = go (decimal s) (leb (valueFrom 0 s) most) refl e
   where
     go : (t u : Bool) → leb (valueFrom 0 s) most ≡ u → Value v ≡ cond (t && u) (Value (valueFrom 0 s)) NoNumber → v ≤ most
@@ -129,15 +129,15 @@ module _ (sep most : ℕ) (s : List ℕ) where
   unfolding fieldOf
   field-none k e h = let o : length s ≤ placeOf sep s = omega arith in simp (le-ltb _ _ o)
 
-  pub field-some : (k : ℕ) → k ≡ placeOf sep s → k < length s → fieldOf sep most s ≡ numberOf most (take k s)
+  pub field-some : (k : ℕ) → k ≡ placeOf sep s → k < length s → fieldOf sep most s ≡ numberIn most (take k s)
   unfolding fieldOf
-  field-some k e h = let o : placeOf sep s < length s = omega arith in simp (lt-ltb _ _ o) (ap (λ (j : ℕ). numberOf most (take j s)) (sym e))
+  field-some k e h = let o : placeOf sep s < length s = omega arith in simp (lt-ltb _ _ o) (ap (λ (j : ℕ). numberIn most (take j s)) (sym e))
 
   pub field-small : (v : ℕ) → Value v ≡ fieldOf sep most s → v ≤ most
   unfolding fieldOf
   field-small v e = go (ltb (placeOf sep s) (length s)) e
     where
-      go : (t : Bool) → Value v ≡ cond t (numberOf most (upTo sep s)) NoNumber → v ≤ most
+      go : (t : Bool) → Value v ≡ cond t (numberIn most (upTo sep s)) NoNumber → v ≤ most
       go true q = number-small most (upTo sep s) v q
       go false q = absurd (no-value q)
 
@@ -154,25 +154,25 @@ module _ (s : List ℕ) where
     entry-two b = let b′ : fieldOf dot halfMost (past dot s) ≡ NoNumber = rw e at b in simp (a, b′)
 
     module _ (u : List ℕ) (d : u ≡ past dot t) (i : ℕ) (b : fieldOf dot halfMost t ≡ Value i) where
-      pub entry-three : numberOf wordMost u ≡ NoNumber → entryIn s ≡ NoNumber
+      pub entry-three : numberIn wordMost u ≡ NoNumber → entryIn s ≡ NoNumber
       unfolding entryIn entryAs
       entry-three w =
           let b′ : fieldOf dot halfMost (past dot s) ≡ Value i = rw e at b in
-          let w′ : numberOf wordMost (past dot (past dot s)) ≡ NoNumber = rw e at (rw d at w) in
+          let w′ : numberIn wordMost (past dot (past dot s)) ≡ NoNumber = rw e at (rw d at w) in
           simp (a, b′, w′)
 
-      pub entry-whole : (w : ℕ) → numberOf wordMost u ≡ Value w → entryIn s ≡ Value (m * 281474976710656 + i * 4294967296 + w)
+      pub entry-whole : (w : ℕ) → numberIn wordMost u ≡ Value w → entryIn s ≡ Value (m * 281474976710656 + i * 4294967296 + w)
       unfolding entryIn entryAs
       entry-whole w g =
           let b′ : fieldOf dot halfMost (past dot s) ≡ Value i = rw e at b in
-          let g′ : numberOf wordMost (past dot (past dot s)) ≡ Value w = rw e at (rw d at g) in
+          let g′ : numberIn wordMost (past dot (past dot s)) ≡ Value w = rw e at (rw d at g) in
           simp (a, b′, g′)
 
 -- an entry is a 64-bit number
 pub entry-small : (s : List ℕ) (v : ℕ) → Value v ≡ entryIn s → v < 2 ^ 64
 unfolding entryIn entryAs
 entry-small s v e =
-    go (fieldOf dot halfMost s) (fieldOf dot halfMost (past dot s)) (numberOf wordMost (past dot (past dot s))) e
+    go (fieldOf dot halfMost s) (fieldOf dot halfMost (past dot s)) (numberIn wordMost (past dot (past dot s))) e
     (λ x q. field-small dot halfMost s x q) (λ x q. field-small dot halfMost (past dot s) x q)
     (λ x q. number-small wordMost (past dot (past dot s)) x q)
   where

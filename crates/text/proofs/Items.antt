@@ -14,7 +14,7 @@ use Rattle.laws.proofs.Tests.{zero-one}
 use Rattle.rules.specs.Sizes.{isBatch}
 use Rattle.text.specs.Lines.{keyed, listLine, valueOf}
 use Rattle.text.specs.Lists.{andItem, belowAs, checked, itemOf, itemsOf, listOf, split}
-use Rattle.text.specs.Numbers.{numberOf, wordMost}
+use Rattle.text.specs.Numbers.{numberIn, wordMost}
 use Rattle.text.specs.Places.{comma}
 use Rattle.text.specs.declared.Kind.{Kind}
 use Rattle.text.specs.declared.Kind.the-variants.{Below, Entry}
@@ -87,7 +87,7 @@ module _ (key : List ℕ) (kind : Kind) (l xs : List ℕ) (e : listLine key kind
 -- an item below n is below n, and an entry is a 64-bit number
 pub below-small : (n : ℕ) (p : List ℕ) (x : ℕ) → Value x ≡ itemOf (Below n) p → x < n
 unfolding itemOf belowAs
-below-small n p x e = go (numberOf wordMost p) e
+below-small n p x e = go (numberIn wordMost p) e
   where
     test : (v : ℕ) (t : Bool) → ltb v n ≡ t → Value x ≡ cond t (Value v) NoNumber → x < n
     test v true h q = omega (arith, ltb-true v n h, value-is q)

@@ -12,7 +12,7 @@ use Rattle.laws.specs.Members.{same}
 use Rattle.laws.proofs.Tests.{both}
 use Rattle.text.specs.Lines.{keyed, listLine, numberLine, valueOf}
 use Rattle.text.specs.Lists.{listOf}
-use Rattle.text.specs.Numbers.{numberOf}
+use Rattle.text.specs.Numbers.{numberIn}
 use Rattle.text.specs.Places.{lf}
 use Rattle.text.specs.declared.Kind.{Kind}
 use Rattle.text.specs.declared.Number.the-variants.{NoNumber, Value}
@@ -45,7 +45,7 @@ module _ (key l : List ℕ) where
   unfolding numberLine
   number-line-no most e = simp e
 
-  pub number-line-yes : (most : ℕ) → keyed key l ≡ true → numberLine key most l ≡ numberOf most (valueOf key l)
+  pub number-line-yes : (most : ℕ) → keyed key l ≡ true → numberLine key most l ≡ numberIn most (valueOf key l)
   unfolding numberLine
   number-line-yes most e = simp e
 
@@ -62,6 +62,6 @@ module _ (key l : List ℕ) where
   unfolding numberLine
   line-small most v e = go (keyed key l) e
     where
-      go : (t : Bool) → Value v ≡ cond t (numberOf most (valueOf key l)) NoNumber → v ≤ most
+      go : (t : Bool) → Value v ≡ cond t (numberIn most (valueOf key l)) NoNumber → v ≤ most
       go true q = number-small most (valueOf key l) v q
       go false q = absurd (no-value q)

@@ -7,7 +7,7 @@ use lib.Dec.{ltb, leb, eqb}
 use lib.ListN.{length, getD, take, drop}
 use Rattle.laws.specs.Members.{same}
 use Rattle.text.specs.Places.{lf, placeOf}
-use Rattle.text.specs.Numbers.{numberOf}
+use Rattle.text.specs.Numbers.{numberIn}
 use Rattle.text.specs.Lists.{ahead, listOf}
 use Rattle.text.specs.declared.Number.{Number}
 use Rattle.text.specs.declared.Number.the-variants.{NoNumber}
@@ -32,7 +32,7 @@ valueOf key l = take (length l - 1 - length key) (drop (length key) l)
 
 -- a line key=number
 unfoldable pub numberLine : List ℕ → ℕ → List ℕ → Number
-numberLine key most l = cond (keyed key l) (numberOf most (valueOf key l)) NoNumber
+numberLine key most l = cond (keyed key l) (numberIn most (valueOf key l)) NoNumber
 
 -- a line key=list
 unfoldable pub listLine : List ℕ → Kind → List ℕ → Option (List ℕ)

@@ -7,7 +7,7 @@ use lib.Dec.{ltb, eqb}
 use lib.ListN.{length, replicate}
 use Rattle.rules.specs.Sizes.{batchMost, isBatch}
 use Rattle.text.specs.Places.{comma}
-use Rattle.text.specs.Numbers.{wordMost, numberOf, entryIn}
+use Rattle.text.specs.Numbers.{wordMost, numberIn, entryIn}
 use Rattle.text.specs.declared.Number.{Number}
 use Rattle.text.specs.declared.Number.the-variants.{Value, NoNumber}
 use Rattle.text.specs.declared.Kind.{Kind}
@@ -31,7 +31,7 @@ belowAs n NoNumber = NoNumber
 
 -- an item: a number below n, or an entry
 unfoldable pub itemOf : Kind → List ℕ → Number
-itemOf (Below n) s = belowAs n (numberOf wordMost s)
+itemOf (Below n) s = belowAs n (numberIn wordMost s)
 itemOf Entry s = entryIn s
 
 -- an item before those that follow; none where it or one of those is bad

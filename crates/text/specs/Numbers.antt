@@ -32,12 +32,12 @@ unfoldable pub decimal : List ℕ → Bool
 decimal s = leb 1 (length s) && (not (leadingZero s) && digitsBelow 10 s)
 
 -- a number that is at most `most`
-unfoldable pub numberOf : ℕ → List ℕ → Number
-numberOf most s = cond (decimal s && leb (valueFrom 0 s) most) (Value (valueFrom 0 s)) NoNumber
+unfoldable pub numberIn : ℕ → List ℕ → Number
+numberIn most s = cond (decimal s && leb (valueFrom 0 s) most) (Value (valueFrom 0 s)) NoNumber
 
 -- a number with the byte `sep` after it
 unfoldable pub fieldOf : ℕ → ℕ → List ℕ → Number
-fieldOf sep most s = cond (ltb (placeOf sep s) (length s)) (numberOf most (upTo sep s)) NoNumber
+fieldOf sep most s = cond (ltb (placeOf sep s) (length s)) (numberIn most (upTo sep s)) NoNumber
 
 -- the most that 16 bits hold, and that 32 bits hold
 abbrev pub halfMost : ℕ
@@ -55,4 +55,4 @@ entryAs NoNumber i w = NoNumber
 
 -- meter.interval.watthours
 unfoldable pub entryIn : List ℕ → Number
-entryIn s = entryAs (fieldOf dot halfMost s) (fieldOf dot halfMost (past dot s)) (numberOf wordMost (past dot (past dot s)))
+entryIn s = entryAs (fieldOf dot halfMost s) (fieldOf dot halfMost (past dot s)) (numberIn wordMost (past dot (past dot s)))

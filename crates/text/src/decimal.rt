@@ -1,7 +1,7 @@
 // Decimal numbers and entries.
 ghost use mathlib.Core.Path.{_≡_};
 ghost use Prim.Native.Nat.{_≤_};
-ghost use Rattle.text.specs.Numbers.{digitOf, digitsBelow, entryIn, fieldOf, leadingZero, numberOf};
+ghost use Rattle.text.specs.Numbers.{digitOf, digitsBelow, entryIn, fieldOf, leadingZero, numberIn};
 use crate::DOT;
 use crate::HALF_MOST;
 use crate::Number;
@@ -54,7 +54,7 @@ pub(crate) fn digits_below(s: &[u8], base: u64) -> bool
 
 // A decimal number without leading zeros, at most `most`. Nothing wraps, however long it is: it is left off as soon as it is above.
 pub(crate) fn read_number(s: &[u8], most: u32) -> Number
-    ensures { λ r. ⌜ r ≡ numberOf most (now (s .entry)) ⌝ }
+    ensures { λ r. ⌜ r ≡ numberIn most (now (s .entry)) ⌝ }
 {
     if s.len() == 0 {
         return Number::NoNumber;

@@ -5,7 +5,7 @@ use denote.Ref.{now}
 use lib.ListN.{replicate}
 use lib.Seq.{length-take-le}
 use Rattle.node.specs.State.{nodeAt}
-use Rattle.report.specs.Logs.{logOf}
+use Rattle.report.specs.Logs.{madeLog}
 use Rattle.report.specs.Signing.{hasBit}
 use Rattle.report.proofs.Made.{log-most, held-fit}
 use Rattle.report.proofs.Printing.{writes-as, sum-within, writes-both}
@@ -25,7 +25,7 @@ close-all-requires c κs = search needs
 number-all-requires : tie.Need-number-all-requires
 number-all-requires c κs =
     let a = c .before .before .before .args in
-    (omega arith, held-fit (hasBit (a .faulty)) (λ j. logOf (nodeAt (a .nodes) j)) (λ j. log-most (nodeAt (a .nodes) j)) (a .n) (c .close-all .result) (c .close-all .ensures))
+    (omega arith, held-fit (hasBit (a .faulty)) (λ j. madeLog (nodeAt (a .nodes) j)) (λ j. log-most (nodeAt (a .nodes) j)) (a .n) (c .close-all .result) (c .close-all .ensures))
 
 slice-aggregate-put-slots : tie.Need-slice-aggregate-put-slots
 slice-aggregate-put-slots c = search needs
@@ -63,7 +63,7 @@ slice-aggregate-put-nodes c =
 put-nodes-requires : tie.Need-put-nodes-requires
 put-nodes-requires c κs =
     let a = c .before .before .before .before .before .before .before .before .before .before .before .before .before .before .args in
-    (omega arith, held-fit (hasBit (a .faulty)) (λ j. logOf (nodeAt (a .nodes) j)) (λ j. log-most (nodeAt (a .nodes) j)) (a .n) (c .before .before .before .before .before .before .before .before .before .before .before .close-all .result) (c .before .before .before .before .before .before .before .before .before .before .before .close-all .ensures))
+    (omega arith, held-fit (hasBit (a .faulty)) (λ j. madeLog (nodeAt (a .nodes) j)) (λ j. log-most (nodeAt (a .nodes) j)) (a .n) (c .before .before .before .before .before .before .before .before .before .before .before .close-all .result) (c .before .before .before .before .before .before .before .before .before .before .before .close-all .ensures))
 
 add-result : tie.Need-add-result
 add-result c =
@@ -83,9 +83,9 @@ returns-2 c =
     let x = c .before .before .before .before .before .before .before .before .before .before .before .before .before .number-all in
     let part = spoken-part (hasBit (a .faulty)) (x .result .of) (a .n) (replicate 528 0) _ (s .result) (s .ensures .0) (s .ensures .1) in
     as-report (a .n) (a .f) (a .faulty) (a .nodes) (now (a .text)) _ _ (omega (arith, c .before .before .before .before .before .before .before .before .before .before .before .before .before .before .before .if1 .left))
-    (writes-as _ _ _ _ _ (whole-text (a .n) (a .f) (hasBit (a .faulty)) (λ j. logOf (nodeAt (a .nodes) j)) (c .before .before .before .before .before .before .before .before .before .before .before .before .before .before .close-all .result) (c .before .before .before .before .before .before .before .before .before .before .before .before .before .before .close-all .ensures) (x .result) (x .ensures) _ part)
+    (writes-as _ _ _ _ _ (whole-text (a .n) (a .f) (hasBit (a .faulty)) (λ j. madeLog (nodeAt (a .nodes) j)) (c .before .before .before .before .before .before .before .before .before .before .before .before .before .before .close-all .result) (c .before .before .before .before .before .before .before .before .before .before .before .before .before .before .close-all .ensures) (x .result) (x .ensures) _ part)
     (writes-both _ _ _ (p .result) (p .last .0) (p .ensures) (p .kept .0) (q .result) _ (q .ensures .0)))
-    (held-entries (hasBit (a .faulty)) (λ j. logOf (nodeAt (a .nodes) j)) (a .n) (c .before .before .before .before .before .before .before .before .before .before .before .before .before .before .close-all .result) (c .before .before .before .before .before .before .before .before .before .before .before .before .before .before .close-all .ensures) (q .ensures .1))
+    (held-entries (hasBit (a .faulty)) (λ j. madeLog (nodeAt (a .nodes) j)) (a .n) (c .before .before .before .before .before .before .before .before .before .before .before .before .before .before .close-all .result) (c .before .before .before .before .before .before .before .before .before .before .before .before .before .before .close-all .ensures) (q .ensures .1))
 
 pub report-into-spec : {M : Type 1} → statement M
 report-into-spec =

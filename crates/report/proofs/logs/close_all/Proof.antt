@@ -6,7 +6,7 @@ use lib.ListN.{length, replicate}
 use Rattle.node.specs.State.{nodeAt}
 use Rattle.rules.specs.Sizes.{nodesMost}
 use Rattle.closing.specs.Gather.{decidedMost}
-use Rattle.report.specs.Logs.{logOf}
+use Rattle.report.specs.Logs.{madeLog}
 use Rattle.report.specs.Signing.{hasBit}
 use Rattle.report.specs.Held.{AllHeld}
 use Rattle.report.proofs.Made.{held-places, none-held, one-held}
@@ -15,14 +15,14 @@ use Rattle.report.proofs.logs.close_all.Statement.{statement}
 use Rattle.report.proofs.logs.close_all.Tie as tie
 
 abbrev Inv-loop : tie.InvT-loop
-Inv-loop n faulty nodes logs₀ i₀ logs i = (i ≤ n) × (length logs ≡ nodesMost) × AllHeld (hasBit faulty) (λ j. logOf (nodeAt nodes j)) i logs
+Inv-loop n faulty nodes logs₀ i₀ logs i = (i ≤ n) × (length logs ≡ nodesMost) × AllHeld (hasBit faulty) (λ j. madeLog (nodeAt nodes j)) i logs
 
 abbrev μ-loop : tie.MeasureT-loop
 μ-loop n faulty nodes logs₀ i₀ logs i = n - i
 
 loop-holds : tie.Need-loop-holds Inv-loop μ-loop
 loop-holds c =
-    (omega arith, refl, none-held (hasBit (c .args .faulty)) (λ j. logOf (nodeAt (c .args .t3) j)) (replicate nodesMost (record { count = 0; entries = replicate decidedMost 0 })))
+    (omega arith, refl, none-held (hasBit (c .args .faulty)) (λ j. madeLog (nodeAt (c .args .t3) j)) (replicate nodesMost (record { count = 0; entries = replicate decidedMost 0 })))
 
 mul-with-log : tie.Need-mul-with-log Inv-loop μ-loop
 mul-with-log c = search needs
@@ -43,14 +43,14 @@ loop-again : tie.Need-loop-again Inv-loop μ-loop
 loop-again c =
     let a = c .before .before .before .before .args in
     let l = c .before .before .before .loop in
-    (omega arith, held-places (a .faulty) (l .i) (l .logs) _ _ (c .with-log .ensures) ∙ l .inv .1, one-held (hasBit (a .faulty)) (λ j. logOf (nodeAt (a .t3) j)) (l .i) (l .logs) _ (omega arith) (l .inv .2) (c .with-log .ensures))
+    (omega arith, held-places (a .faulty) (l .i) (l .logs) _ _ (c .with-log .ensures) ∙ l .inv .1, one-held (hasBit (a .faulty)) (λ j. madeLog (nodeAt (a .t3) j)) (l .i) (l .logs) _ (omega arith) (l .inv .2) (c .with-log .ensures))
 
 returns : tie.Need-returns Inv-loop μ-loop
 returns c =
     let a = c .before .before .args in
     let l = c .before .loop in
     let all : l .i ≡ a .n = omega arith in
-    subst (λ i. AllHeld (hasBit (a .faulty)) (λ j. logOf (nodeAt (a .t3) j)) i (l .logs)) all (l .inv .2)
+    subst (λ i. AllHeld (hasBit (a .faulty)) (λ j. madeLog (nodeAt (a .t3) j)) i (l .logs)) all (l .inv .2)
 
 pub close-all-spec : {M : Type 1} → statement M
 close-all-spec =

@@ -1,6 +1,6 @@
 -- A faulty node's place is left as it is; a correct one's gets its log.
 use mathlib.Core.Path.{sym, _∙_}
-use Rattle.report.specs.Logs.{logOf}
+use Rattle.report.specs.Logs.{madeLog}
 use Rattle.report.proofs.Made.{held-already, held-now}
 use borrow.Author.Needs.{needs}
 use Rattle.report.proofs.logs.with_log.Statement.{statement}
@@ -12,7 +12,7 @@ has-bit-requires c κs = search needs
 returns : tie.Need-returns
 returns c =
     let a = c .before .before .args in
-    held-already (a .faulty) (a .i) (a .logs) (logOf (a .node)) (sym (c .before .has-bit .ensures) ∙ c .if1 .taken)
+    held-already (a .faulty) (a .i) (a .logs) (madeLog (a .node)) (sym (c .before .has-bit .ensures) ∙ c .if1 .taken)
 
 log-of-requires : tie.Need-log-of-requires
 log-of-requires c κs = search needs
@@ -26,7 +26,7 @@ array-set-from-after c = search needs
 returns-2 : tie.Need-returns-2
 returns-2 c =
     let a = c .before .before .before .args in
-    held-now (a .faulty) (a .i) (a .logs) (logOf (a .node)) (sym (c .before .before .has-bit .ensures) ∙ c .before .if1 .left) _ (c .log-of .ensures)
+    held-now (a .faulty) (a .i) (a .logs) (madeLog (a .node)) (sym (c .before .before .has-bit .ensures) ∙ c .before .if1 .left) _ (c .log-of .ensures)
 
 pub with-log-spec : {M : Type 1} → statement M
 with-log-spec =

@@ -4,13 +4,13 @@ use mathlib.Core.Path.{_∙_, _≡_, sym}
 use native.Mathlib.Omega.{arith}
 use borrow.Author.Needs.{needs}
 use lib.ListN.{drop, length}
-use Rattle.text.specs.Numbers.{numberOf}
+use Rattle.text.specs.Numbers.{numberIn}
 use Rattle.text.proofs.Digits.{number-end, number-go, number-none, number-over, number-start, number-stop, number-zero, numberFrom}
 use Rattle.text.proofs.decimal.read_number.Statement.{statement}
 use Rattle.text.proofs.decimal.read_number.Tie as tie
 
 abbrev Inv-loop : tie.InvT-loop
-Inv-loop s most limit v₀ i₀ v i = (i ≤ length s) × (v ≤ most) × (numberOf most s ≡ numberFrom most v (drop i s))
+Inv-loop s most limit v₀ i₀ v i = (i ≤ length s) × (v ≤ most) × (numberIn most s ≡ numberFrom most v (drop i s))
 
 abbrev μ-loop : tie.MeasureT-loop
 μ-loop s most limit v₀ i₀ v i = length s - i

@@ -3,7 +3,7 @@ use mathlib.Core.Path.{_∙_, ap, sym}
 use denote.Ref.{now}
 use borrow.Author.Needs.{needs}
 use borrow.Author.Tests.{not-false, not-true}
-use Rattle.text.specs.Numbers.{numberOf}
+use Rattle.text.specs.Numbers.{numberIn}
 use Rattle.text.proofs.Keys.{number-line-no, number-line-yes}
 use Rattle.text.proofs.line.line_number.Statement.{statement}
 use Rattle.text.proofs.line.line_number.Tie as tie
@@ -25,7 +25,7 @@ read-number-requires c κs = search needs
 returns-2 : tie.Need-returns-2
 returns-2 c =
     let a = c .before .before .before .before .before .before .args in
-    c .read-number .ensures ∙ ap (numberOf (a .most)) (c .before .value .ensures)
+    c .read-number .ensures ∙ ap (numberIn (a .most)) (c .before .value .ensures)
     ∙ sym (number-line-yes (now (a .key)) (now (a .line)) _ (sym (c .before .before .before .keyed .ensures)
     ∙ not-false _ (c .before .before .if1 .left)))
 
