@@ -2,7 +2,6 @@
 ghost use mathlib.Core.Path.{_≡_};
 ghost use mathlib.Core.Bool.{_&&_, false, not};
 ghost use Prim.Native.Nat.{_+_, _<_, _≤_};
-ghost use lib.ListN.{length};
 ghost use Rattle.laws.specs.Members.{same};
 ghost use Rattle.rules.specs.Sizes.{nodesMost};
 ghost use Rattle.closing.specs.Gather.{decidedMost};

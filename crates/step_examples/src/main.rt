@@ -1,7 +1,7 @@
 // The node's worked examples, run: each is a call whose answer the proof shows to be the expected one.
 ghost use mathlib.Core.Path.{_≡_};
 ghost use lib.ListN.{length};
-ghost use Rattle.step_examples.specs.Halls.{alone, before};
+ghost use Rattle.step_examples.specs.Halls.{before};
 ghost use Rattle.step_examples.specs.Rounds.{Keeps};
 ghost use Rattle.step.specs.Step.{Step};
 use node::Node;

@@ -1,7 +1,7 @@
 -- The message goes after the two bytes of its length.
 use native.Mathlib.Omega.{arith}
 use denote.Ref.{now}
-use lib.ListN.{length, length-set}
+use lib.ListN.{length-set}
 use Rattle.played.specs.Inboxes.{messageTo}
 use Rattle.played.proofs.Messages.{short}
 use Rattle.played.proofs.Copies.{slot-length, one-slot}
