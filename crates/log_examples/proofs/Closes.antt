@@ -30,7 +30,8 @@ unfolding sizes sized
 one-node = refl
 
 -- the fresh node of one, its rounds over
-pub is-alone : (made : Made) → New 1 0 0 made → (own : Batch) → record { n = made .node .n; f = made .node .f; me = made .node .me; phase = 2; own = own; kept = made .node .kept } ≡ aloneWith own
+pub is-alone : (made : Made) → New 1 0 0 made → (own : Batch) →
+    record { n = made .node .n; f = made .node .f; me = made .node .me; phase = 2; own = own; kept = made .node .kept } ≡ aloneWith own
 is-alone made p own =
     let e : made .node ≡ fresh 1 0 0 = p .node ∙ simp one-node in
     ap (λ (s : Node). record { n = s .n; f = s .f; me = s .me; phase = 2; own = own; kept = s .kept }) e

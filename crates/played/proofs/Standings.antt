@@ -135,7 +135,8 @@ module _ (s : List ℕ) (n f : ℕ) (form : formOf s ≡ Good n f) where
 
         beyond : (j : ℕ) → nodesMost ≤ j → outboxAt (here .outboxes) j .size ≤ messageMost
         beyond j l =
-            let size : length (here .outboxes) ≡ nodesMost = ap (λ (x : Standing). length (x .outboxes)) stands ∙ each-length (λ (k : ℕ). stoodAt hall (here .next) k .outbox) nodesMost in
+            let size : length (here .outboxes) ≡ nodesMost = ap (λ (x : Standing). length (x .outboxes)) stands ∙ each-length
+            (λ (k : ℕ). stoodAt hall (here .next) k .outbox) nodesMost in
             subst (λ (o : Outbox). o .size ≤ messageMost) (sym (past-end (here .outboxes) j _ (omega (arith, size)))) (omega arith)
 
     -- ---- the inbox
@@ -153,7 +154,8 @@ module _ (s : List ℕ) (n f : ℕ) (form : formOf s ≡ Good n f) where
           go true e = rw (bit-is j most ∙ e, e, round)
           go false e =
               let o : outboxAt (here .outboxes) j ≡ outboxOf (sends hall j (suc q)) =
-              outbox-there hall here (suc q) (stands ∙ ap (standing hall) round) j most ∙ ap (λ (b : Bool). cond b (stoodOf (nodeBefore hall j (suc q)) (sends hall j (suc q))) (stoodOf nobody []) .outbox) (is-correct j l e) in
+              outbox-there hall here (suc q) (stands ∙ ap (standing hall) round) j most ∙ ap
+              (λ (b : Bool). cond b (stoodOf (nodeBefore hall j (suc q)) (sends hall j (suc q))) (stoodOf nobody []) .outbox) (is-correct j l e) in
               let m : sentIn (outboxAt (here .outboxes) j) ≡ sends hall j (suc q) = ap sentIn o ∙ sent-back (sends hall j (suc q)) in
               ap (λ (b : Bool). cond (eqb j i) [] (cond b (messageFor s (here .next) j i) (sentIn (outboxAt (here .outboxes) j)))) (bit-is j most ∙ e)
               ∙ ap (λ (x : List ℕ). cond (eqb j i) [] x) m
@@ -197,5 +199,6 @@ module _ (s : List ℕ) (n f : ℕ) (form : formOf s ≡ Good n f) where
             go zero k = absurd (z k)
             go (suc q) k =
                 let same : nodeAt (here .nodes) i ≡ nodeAfter hall i q =
-                node-there hall here (suc q) (stands ∙ ap (standing hall) k) i node ∙ ap (λ (t : Bool). cond t (stoodOf (nodeBefore hall i (suc q)) (sends hall i (suc q))) (stoodOf nobody []) .node) (is-correct i l fine) in
+                node-there hall here (suc q) (stands ∙ ap (standing hall) k) i node ∙ ap
+                (λ (t : Bool). cond t (stoodOf (nodeBefore hall i (suc q)) (sends hall i (suc q))) (stoodOf nobody []) .node) (is-correct i l fine) in
                 e ∙ ap₂ steppedTo same (inbox-here i q k) ∙ sym (stood-next (suc q) k)

@@ -78,7 +78,8 @@ module _ (n : ℕ) (t : ℕ → Bool) (log : ℕ → List ℕ) where
     -- every number is 0, every mark the same
     pub one-number : (j : ℕ) → j < n → t j ≡ false → numberAt t log n j ≡ 0
     unfolding placeIn
-    one-number j l f = ap (λ (k : List ℕ). placeIn k (distinct t log n)) (all j l f) ∙ ⊎-elim (λ h. ap (placeIn one) h) (λ h. ap (placeIn one) h ∙ simp (same-self one)) (one-distinct n (omega arith))
+    one-number j l f = ap (λ (k : List ℕ). placeIn k (distinct t log n)) (all j l f) ∙ ⊎-elim (λ h. ap (placeIn one) h)
+        (λ h. ap (placeIn one) h ∙ simp (same-self one)) (one-distinct n (omega arith))
 
     pub one-mark : (j : ℕ) → j < n → t j ≡ false → markAt t log n j ≡ markWith 0
     one-mark j l f = ap markWith (one-number j l f)
@@ -127,5 +128,6 @@ pub one-report : (n f : ℕ) (t : ℕ → Bool) (node : ℕ → Node) (one : Lis
     → reportOf n f t node ≡ linesText (sizesLines n f ++ allLines t (λ (i : ℕ). one) (λ (i : ℕ). nodesThat (λ (j : ℕ). not (t j)) n) n)
 one-report n f t node one sized many all =
     ap (λ ls. linesText (sizesLines n f ++ ls))
-    (lines-same n t t (λ j l. refl) (λ (i : ℕ). madeLog (node i)) (λ (i : ℕ). one) (signersAt n f t (λ (i : ℕ). madeLog (node i))) (λ (i : ℕ). nodesThat (λ (j : ℕ). not (t j)) n) all
+    (lines-same n t t (λ j l. refl) (λ (i : ℕ). madeLog (node i)) (λ (i : ℕ). one) (signersAt n f t (λ (i : ℕ). madeLog (node i)))
+    (λ (i : ℕ). nodesThat (λ (j : ℕ). not (t j)) n) all
     (λ i l e. one-signers n t (λ (i : ℕ). madeLog (node i)) one all i l e f (sized i l e) many))

@@ -78,7 +78,8 @@ module _ (v w text : List ℕ) (a : ℕ) (part : List ℕ) (p : Writes v text a 
 pub lines-append : (ls ms : List Line) → linesText (ls ++ ms) ≡ linesText ls ++ linesText ms
 unfolding linesText
 lines-append [] ms = refl
-lines-append (l ∷ ls) ms = ap (λ (s : List ℕ). lineText (l .key) (l .value) ++ s) (lines-append ls ms) ∙ sym (append-assoc (lineText (l .key) (l .value)) (linesText ls) (linesText ms))
+lines-append (l ∷ ls) ms = ap (λ (s : List ℕ). lineText (l .key) (l .value) ++ s) (lines-append ls ms) ∙ sym
+    (append-assoc (lineText (l .key) (l .value)) (linesText ls) (linesText ms))
 
 pub two-lines : (l m : Line) → lineText (l .key) (l .value) ++ lineText (m .key) (m .value) ≡ linesText (l ∷ m ∷ [])
 unfolding linesText
@@ -107,4 +108,5 @@ module _ (t : ℕ → Bool) (log signers : ℕ → List ℕ) where
 
   pub node-after : (i : ℕ) → linesText (allLines t log signers i) ++ linesText (cond (t i) [] (nodeLines i (log i) (signers i))) ≡ linesText (allLines t log signers (i + 1))
   unfolding allLines gather
-  node-after i = sym (lines-append (allLines t log signers i) (cond (t i) [] (nodeLines i (log i) (signers i)))) ∙ ap (λ (k : ℕ). linesText (allLines t log signers k)) (sym (add-one i))
+  node-after i = sym (lines-append (allLines t log signers i) (cond (t i) [] (nodeLines i (log i) (signers i)))) ∙ ap
+      (λ (k : ℕ). linesText (allLines t log signers k)) (sym (add-one i))

@@ -82,7 +82,8 @@ module _ (t : ℕ → Bool) (mark : ℕ → Mark) (l : (j : ℕ) → length (mar
     next-spoken w we size r y put =
         let lw : length w ≡ slotSize = ap length we ∙ slot-size (t j) (mark j) (l j) in
         let rest : List ℕ = take (length output - slotSize * j) (drop (slotSize * j) output) in
-        let lr : length rest ≡ length output - slotSize * j = length-take-le (length output - slotSize * j) (drop (slotSize * j) output) (omega (arith, length-drop (slotSize * j) output)) in
+        let lr : length rest ≡ length output - slotSize * j = length-take-le (length output - slotSize * j) (drop (slotSize * j) output)
+        (omega (arith, length-drop (slotSize * j) output)) in
         let fit : length w ≤ length rest = omega (arith, lw, lr, size) in
         let g : y ≡ onto w rest = put .leaves ∙ simp (le-leb _ _ fit) in
         let at : slotSize * j + length w ≡ slotSize * (j + 1) = omega (arith, lw) in

@@ -35,7 +35,13 @@ too-many n f faulty nodes text h = record { writes = λ l. absurd (omega arith);
 pub as-report : (n f faulty : ℕ) (nodes : List Node) (text : List ℕ) (r : ℕ) (after : List ℕ) → n ≤ nodesMost
     → Writes (linesText (reportLines n f (hasBit faulty) (λ i. madeLog (nodeAt nodes i)))) text r after
     → AllEntries (hasBit faulty) (λ i. madeLog (nodeAt nodes i)) n → Reports n f faulty nodes text r after
-as-report n f faulty nodes text r after l w e = record { writes = λ m. w; most = λ m k. report-most n f (hasBit faulty) (nodeAt nodes) m k e; nothing = λ m. absurd (omega arith); untouched = λ m. absurd (omega arith) }
+as-report n f faulty nodes text r after l w e = record {
+  writes = λ m. w;
+  most = λ m k. report-most n f (hasBit faulty)
+      (nodeAt nodes) m k e;
+  nothing = λ m. absurd (omega arith);
+  untouched = λ m. absurd (omega arith);
+}
 
 -- what is held of 64-bit numbers is the log
 pub held-entries : (t : ℕ → Bool) (log : ℕ → List ℕ) (n : ℕ) (held : List HeldLog) → AllHeld t log n held → AllEntries t (λ j. logIn (heldAt held j)) n → AllEntries t log n

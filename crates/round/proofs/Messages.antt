@@ -63,7 +63,8 @@ module _ (n me r : ℕ) (s : List ℕ) (found : List Found) where
           readable = λ nodes h. heard h;
           goes = λ nodes h result u.
               here .goes nodes h result
-              (subst (λ (l : List Vote). Take r after result l) (others-before me v rest (heard h) ∙ ap (λ (o : Option (List Vote)). others me (votesIn o)) (sym (next-left n s a p m k x told)))
+              (subst (λ (l : List Vote). Take r after result l)
+              (others-before me v rest (heard h) ∙ ap (λ (o : Option (List Vote)). others me (votesIn o)) (sym (next-left n s a p m k x told)))
               (take-join r after next result (others me (v ∷ [])) (others me (votesIn rest)) t u));
         }
 

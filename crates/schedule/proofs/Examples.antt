@@ -101,25 +101,33 @@ tray-forms = (refl, refl, refl, refl, refl)
 
 send-forms :
     -- round 0
-    (formOf (n-three ++ f-one ++ faulty-zero ++ tray-none ++ tray-forty ++ tray-sixty ++ (115 ∷ 101 ∷ 110 ∷ 100 ∷ 61 ∷ 48 ∷ 44 ∷ 48 ∷ 44 ∷ 49 ∷ 44 ∷ 48 ∷ 48 ∷ 10 ∷ []) ++ the-end) ≡ Bad 7)
+    (formOf (n-three ++ f-one ++ faulty-zero ++ tray-none ++ tray-forty ++ tray-sixty ++
+    (115 ∷ 101 ∷ 110 ∷ 100 ∷ 61 ∷ 48 ∷ 44 ∷ 48 ∷ 44 ∷ 49 ∷ 44 ∷ 48 ∷ 48 ∷ 10 ∷ []) ++ the-end) ≡ Bad 7)
     -- round f + 2
-    × (formOf (n-three ++ f-one ++ faulty-zero ++ tray-none ++ tray-forty ++ tray-sixty ++ (115 ∷ 101 ∷ 110 ∷ 100 ∷ 61 ∷ 51 ∷ 44 ∷ 48 ∷ 44 ∷ 49 ∷ 44 ∷ 48 ∷ 48 ∷ 10 ∷ []) ++ the-end) ≡ Bad 7)
+    × (formOf (n-three ++ f-one ++ faulty-zero ++ tray-none ++ tray-forty ++ tray-sixty ++
+    (115 ∷ 101 ∷ 110 ∷ 100 ∷ 61 ∷ 51 ∷ 44 ∷ 48 ∷ 44 ∷ 49 ∷ 44 ∷ 48 ∷ 48 ∷ 10 ∷ []) ++ the-end) ≡ Bad 7)
     -- from a correct node
-    × (formOf (n-three ++ f-one ++ faulty-zero ++ tray-none ++ tray-forty ++ tray-sixty ++ (115 ∷ 101 ∷ 110 ∷ 100 ∷ 61 ∷ 49 ∷ 44 ∷ 49 ∷ 44 ∷ 50 ∷ 44 ∷ 48 ∷ 48 ∷ 10 ∷ []) ++ the-end) ≡ Bad 7)
+    × (formOf (n-three ++ f-one ++ faulty-zero ++ tray-none ++ tray-forty ++ tray-sixty ++
+    (115 ∷ 101 ∷ 110 ∷ 100 ∷ 61 ∷ 49 ∷ 44 ∷ 49 ∷ 44 ∷ 50 ∷ 44 ∷ 48 ∷ 48 ∷ 10 ∷ []) ++ the-end) ≡ Bad 7)
     -- to a faulty node
-    × (formOf (n-three ++ f-one ++ faulty-zero ++ tray-none ++ tray-forty ++ tray-sixty ++ (115 ∷ 101 ∷ 110 ∷ 100 ∷ 61 ∷ 49 ∷ 44 ∷ 48 ∷ 44 ∷ 48 ∷ 44 ∷ 48 ∷ 48 ∷ 10 ∷ []) ++ the-end) ≡ Bad 7)
+    × (formOf (n-three ++ f-one ++ faulty-zero ++ tray-none ++ tray-forty ++ tray-sixty ++
+    (115 ∷ 101 ∷ 110 ∷ 100 ∷ 61 ∷ 49 ∷ 44 ∷ 48 ∷ 44 ∷ 48 ∷ 44 ∷ 48 ∷ 48 ∷ 10 ∷ []) ++ the-end) ≡ Bad 7)
     -- to a node that is not there
-    × (formOf (n-three ++ f-one ++ faulty-zero ++ tray-none ++ tray-forty ++ tray-sixty ++ (115 ∷ 101 ∷ 110 ∷ 100 ∷ 61 ∷ 49 ∷ 44 ∷ 48 ∷ 44 ∷ 51 ∷ 44 ∷ 48 ∷ 48 ∷ 10 ∷ []) ++ the-end) ≡ Bad 7)
+    × (formOf (n-three ++ f-one ++ faulty-zero ++ tray-none ++ tray-forty ++ tray-sixty ++
+    (115 ∷ 101 ∷ 110 ∷ 100 ∷ 61 ∷ 49 ∷ 44 ∷ 48 ∷ 44 ∷ 51 ∷ 44 ∷ 48 ∷ 48 ∷ 10 ∷ []) ++ the-end) ≡ Bad 7)
     -- an empty message
     × (formOf (n-three ++ f-one ++ faulty-zero ++ tray-none ++ tray-forty ++ tray-sixty ++ (115 ∷ 101 ∷ 110 ∷ 100 ∷ 61 ∷ 49 ∷ 44 ∷ 48 ∷ 44 ∷ 49 ∷ 44 ∷ 10 ∷ []) ++ the-end) ≡ Bad 7)
     -- half a byte
-    × (formOf (n-three ++ f-one ++ faulty-zero ++ tray-none ++ tray-forty ++ tray-sixty ++ (115 ∷ 101 ∷ 110 ∷ 100 ∷ 61 ∷ 49 ∷ 44 ∷ 48 ∷ 44 ∷ 49 ∷ 44 ∷ 48 ∷ 48 ∷ 48 ∷ 10 ∷ []) ++ the-end) ≡ Bad 7)
+    × (formOf (n-three ++ f-one ++ faulty-zero ++ tray-none ++ tray-forty ++ tray-sixty ++
+    (115 ∷ 101 ∷ 110 ∷ 100 ∷ 61 ∷ 49 ∷ 44 ∷ 48 ∷ 44 ∷ 49 ∷ 44 ∷ 48 ∷ 48 ∷ 48 ∷ 10 ∷ []) ++ the-end) ≡ Bad 7)
     -- upper-case hex
-    × (formOf (n-three ++ f-one ++ faulty-zero ++ tray-none ++ tray-forty ++ tray-sixty ++ (115 ∷ 101 ∷ 110 ∷ 100 ∷ 61 ∷ 49 ∷ 44 ∷ 48 ∷ 44 ∷ 49 ∷ 44 ∷ 48 ∷ 65 ∷ 10 ∷ []) ++ the-end) ≡ Bad 7)
+    × (formOf (n-three ++ f-one ++ faulty-zero ++ tray-none ++ tray-forty ++ tray-sixty ++
+    (115 ∷ 101 ∷ 110 ∷ 100 ∷ 61 ∷ 49 ∷ 44 ∷ 48 ∷ 44 ∷ 49 ∷ 44 ∷ 48 ∷ 65 ∷ 10 ∷ []) ++ the-end) ≡ Bad 7)
     -- two equal sends
     × (formOf (n-three ++ f-one ++ faulty-zero ++ tray-none ++ tray-forty ++ tray-sixty ++ send-seventy ++ send-seventy ++ the-end) ≡ Bad 8)
     -- a send to 1 after one to 2
-    × (formOf (n-three ++ f-one ++ faulty-zero ++ tray-none ++ tray-forty ++ tray-sixty ++ (115 ∷ 101 ∷ 110 ∷ 100 ∷ 61 ∷ 49 ∷ 44 ∷ 48 ∷ 44 ∷ 50 ∷ 44 ∷ 48 ∷ 48 ∷ 10 ∷ []) ++ send-seventy ++ the-end) ≡ Bad 8)
+    × (formOf (n-three ++ f-one ++ faulty-zero ++ tray-none ++ tray-forty ++ tray-sixty ++
+    (115 ∷ 101 ∷ 110 ∷ 100 ∷ 61 ∷ 49 ∷ 44 ∷ 48 ∷ 44 ∷ 50 ∷ 44 ∷ 48 ∷ 48 ∷ 10 ∷ []) ++ send-seventy ++ the-end) ≡ Bad 8)
     -- no end
     × (formOf (n-three ++ f-one ++ faulty-zero ++ tray-none ++ tray-forty ++ tray-sixty ++ send-seventy) ≡ Bad 8)
     -- an end without its LF

@@ -102,7 +102,8 @@ returns-5 c =
     let log = sym (d .before .is-log .ensures) ∙ not-false _ (d .if3 .left) in
     let g = c .before .before .before .before .before .before .gather in
     let size = c .before .before .before .joined-length in
-    too-short (a .node) (now (a .old)) (now (a .output)) sound (omega arith) log (g .result) (g .ensures) (size .result) (size .ensures) (omega arith) (omega arith) _ (c .refused5 .ensures)
+    too-short (a .node) (now (a .old)) (now (a .output)) sound (omega arith) log (g .result) (g .ensures) (size .result) (size .ensures) (omega arith)
+    (omega arith) _ (c .refused5 .ensures)
 
 merge-requires : tie.Need-merge-requires
 merge-requires c κs =
@@ -124,7 +125,8 @@ returns-6 c =
     let log = sym (d .before .is-log .ensures) ∙ not-false _ (d .if3 .left) in
     let g = c .before .before .before .before .before .before .before .before .before .gather in
     let size = c .before .before .before .before .before .before .joined-length in
-    closes (a .node) (now (a .old)) (now (a .output)) sound (omega arith) log (g .result) (g .ensures) (size .result) (size .ensures) (omega arith) (omega arith) _ (c .before .before .merge .ensures .1)
+    closes (a .node) (now (a .old)) (now (a .output)) sound (omega arith) log (g .result) (g .ensures) (size .result) (size .ensures) (omega arith)
+    (omega arith) _ (c .before .before .merge .ensures .1)
 
 pub close-spec : {M : Type 1} → statement M
 close-spec =

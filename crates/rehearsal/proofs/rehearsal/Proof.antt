@@ -24,7 +24,8 @@ array-share-prefix-text : tie.Need-array-share-prefix-text
 array-share-prefix-text c = search needs
 
 slice-aggregate-put-bytes : tie.Need-slice-aggregate-put-bytes
-slice-aggregate-put-bytes c = sym (length-take-le (c .before .before .before .before .tell .result) _ (omega (arith, c .before .before .before .before .tell .ensures .writes .within)))
+slice-aggregate-put-bytes c = sym (length-take-le (c .before .before .before .before .tell .result) _
+    (omega (arith, c .before .before .before .before .tell .ensures .writes .within)))
 
 put-bytes-requires : tie.Need-put-bytes-requires
 put-bytes-requires c κs = search needs
@@ -37,7 +38,8 @@ returns-2 c =
     let a = c .before .before .before .before .before .before .before .before .before .before .before .args in
     let told = c .before .before .before .before .before .before .before .tell in
     let put = c .before .before .put-bytes in
-    written (now (a .schedule)) _ _ (now (a .output)) (told .result) (told .ensures) (omega arith) (omega (arith, c .before .before .before .before .before .if1 .left)) (put .result) _ (put .ensures)
+    written (now (a .schedule)) _ _ (now (a .output)) (told .result) (told .ensures) (omega arith)
+    (omega (arith, c .before .before .before .before .before .if1 .left)) (put .result) _ (put .ensures)
 
 pub rehearsal-spec : {M : Type 1} → statement M
 rehearsal-spec =

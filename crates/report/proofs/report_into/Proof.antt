@@ -62,14 +62,23 @@ slice-aggregate-put-nodes c =
 
 put-nodes-requires : tie.Need-put-nodes-requires
 put-nodes-requires c κs =
-    let a = c .before .before .before .before .before .before .before .before .before .before .before .before .before .before .args in
-    (omega arith, held-fit (hasBit (a .faulty)) (λ j. madeLog (nodeAt (a .nodes) j)) (λ j. log-most (nodeAt (a .nodes) j)) (a .n) (c .before .before .before .before .before .before .before .before .before .before .before .close-all .result) (c .before .before .before .before .before .before .before .before .before .before .before .close-all .ensures))
+    let a = c .before .before .before .before .before .before .before .before .before .before .before .before .before .before .args in (
+      omega arith,
+      held-fit (hasBit (a .faulty)) (λ j. madeLog (nodeAt (a .nodes) j)) (λ j. log-most (nodeAt (a .nodes) j)) (a .n)
+          (c .before .before .before .before .before .before .before .before .before .before .before .close-all .result)
+          (c .before .before .before .before .before .before .before .before .before .before .before .close-all .ensures),
+    )
 
 add-result : tie.Need-add-result
 add-result c =
     let p = c .before .before .before .before .before .before .before .put-sizes in
     let q = c .before .before .put-nodes in
-    omega (arith, sum-within _ _ _ (p .result) (p .last .0) (p .ensures) (p .kept .0) (q .result) _ (q .ensures .0), c .before .before .before .before .before .before .before .before .before .before .before .before .before .before .before .before .before .good .1 .1 .1 .1 .0)
+    omega (
+      arith,
+      sum-within _ _ _ (p .result) (p .last .0) (p .ensures) (p .kept .0) (q .result) _
+          (q .ensures .0),
+      c .before .before .before .before .before .before .before .before .before .before .before .before .before .before .before .before .before .good .1 .1 .1 .1 .0,
+    )
 
 same-length : tie.Need-same-length
 same-length c = search needs
@@ -82,10 +91,16 @@ returns-2 c =
     let s = c .before .before .before .before .before .before .before .before .before .before .put-slots in
     let x = c .before .before .before .before .before .before .before .before .before .before .before .before .before .number-all in
     let part = spoken-part (hasBit (a .faulty)) (x .result .of) (a .n) (replicate 528 0) _ (s .result) (s .ensures .0) (s .ensures .1) in
-    as-report (a .n) (a .f) (a .faulty) (a .nodes) (now (a .text)) _ _ (omega (arith, c .before .before .before .before .before .before .before .before .before .before .before .before .before .before .before .if1 .left))
-    (writes-as _ _ _ _ _ (whole-text (a .n) (a .f) (hasBit (a .faulty)) (λ j. madeLog (nodeAt (a .nodes) j)) (c .before .before .before .before .before .before .before .before .before .before .before .before .before .before .close-all .result) (c .before .before .before .before .before .before .before .before .before .before .before .before .before .before .close-all .ensures) (x .result) (x .ensures) _ part)
+    as-report (a .n) (a .f) (a .faulty) (a .nodes) (now (a .text)) _ _
+    (omega (arith, c .before .before .before .before .before .before .before .before .before .before .before .before .before .before .before .if1 .left))
+    (writes-as _ _ _ _ _ (whole-text (a .n) (a .f) (hasBit (a .faulty)) (λ j. madeLog (nodeAt (a .nodes) j))
+    (c .before .before .before .before .before .before .before .before .before .before .before .before .before .before .close-all .result)
+    (c .before .before .before .before .before .before .before .before .before .before .before .before .before .before .close-all .ensures)
+    (x .result) (x .ensures) _ part)
     (writes-both _ _ _ (p .result) (p .last .0) (p .ensures) (p .kept .0) (q .result) _ (q .ensures .0)))
-    (held-entries (hasBit (a .faulty)) (λ j. madeLog (nodeAt (a .nodes) j)) (a .n) (c .before .before .before .before .before .before .before .before .before .before .before .before .before .before .close-all .result) (c .before .before .before .before .before .before .before .before .before .before .before .before .before .before .close-all .ensures) (q .ensures .1))
+    (held-entries (hasBit (a .faulty)) (λ j. madeLog (nodeAt (a .nodes) j)) (a .n)
+    (c .before .before .before .before .before .before .before .before .before .before .before .before .before .before .close-all .result)
+    (c .before .before .before .before .before .before .before .before .before .before .before .before .before .before .close-all .ensures) (q .ensures .1))
 
 pub report-into-spec : {M : Type 1} → statement M
 report-into-spec =

@@ -22,11 +22,13 @@ open-requires c κs = search needs
 
 expect-requires : tie.Need-expect-requires
 expect-requires c κs =
-    eq-eqb _ 0 (opening-done (c .before .before .«open» .ensures) (fresh 1 0 0) (made-node 1 0 0 _ (c .before .before .before .before .before .new .ensures) alone-made) alone-opens)
+    eq-eqb _ 0 (opening-done (c .before .before .«open» .ensures) (fresh 1 0 0)
+    (made-node 1 0 0 _ (c .before .before .before .before .before .new .ensures) alone-made) alone-opens)
 
 slice-aggregate-same : tie.Need-slice-aggregate-same
 slice-aggregate-same c =
-    sym (ap length (opening-outbox (c .before .before .before .before .«open» .ensures) (fresh 1 0 0) (made-node 1 0 0 _ (c .before .before .before .before .before .before .before .new .ensures) alone-made) alone-opens ∙ alone-outbox))
+    sym (ap length (opening-outbox (c .before .before .before .before .«open» .ensures) (fresh 1 0 0)
+    (made-node 1 0 0 _ (c .before .before .before .before .before .before .before .new .ensures) alone-made) alone-opens ∙ alone-outbox))
 
 slice-aggregate-same-2 : tie.Need-slice-aggregate-same-2
 slice-aggregate-same-2 c = search needs
@@ -36,7 +38,8 @@ same-requires c κs = search needs
 
 expect-requires-2 : tie.Need-expect-requires-2
 expect-requires-2 c κs =
-    c .same .ensures .1 (opening-outbox (c .before .before .before .before .before .before .«open» .ensures) (fresh 1 0 0) (made-node 1 0 0 _ (c .before .before .before .before .before .before .before .before .before .new .ensures) alone-made) alone-opens ∙ alone-outbox)
+    c .same .ensures .1 (opening-outbox (c .before .before .before .before .before .before .«open» .ensures) (fresh 1 0 0)
+    (made-node 1 0 0 _ (c .before .before .before .before .before .before .before .before .before .new .ensures) alone-made) alone-opens ∙ alone-outbox)
 
 slice-aggregate-step : tie.Need-slice-aggregate-step
 slice-aggregate-step c = search needs
@@ -49,11 +52,14 @@ step-requires c κs = search needs
 
 expect-requires-3 : tie.Need-expect-requires-3
 expect-requires-3 c κs =
-    eq-eqb _ 0 (step-done (c .before .before .step .ensures) alone (opening-node (c .before .before .before .before .before .before .before .before .before .before .before .before .«open» .ensures) (fresh 1 0 0) (made-node 1 0 0 _ (c .before .before .before .before .before .before .before .before .before .before .before .before .before .before .before .new .ensures) alone-made) alone-opens ∙ alone-opened) alone-done)
+    eq-eqb _ 0 (step-done (c .before .before .step .ensures) alone
+    (opening-node (c .before .before .before .before .before .before .before .before .before .before .before .before .«open» .ensures) (fresh 1 0 0)
+    (made-node 1 0 0 _ (c .before .before .before .before .before .before .before .before .before .before .before .before .before .before .before .new .ensures) alone-made) alone-opens ∙ alone-opened) alone-done)
 
 expect-requires-4 : tie.Need-expect-requires-4
 expect-requires-4 c κs =
-    eq-eqb _ 2 (ap (λ (v : Node). v .phase) (step-node (c .before .before .before .before .before .step .ensures) alone (opening-node (c .before .before .before .before .before .before .before .before .before .before .before .before .before .before .before .«open» .ensures) (fresh 1 0 0) (made-node 1 0 0 _ (c .before .before .before .before .before .before .before .before .before .before .before .before .before .before .before .before .before .before .new .ensures) alone-made) alone-opens ∙ alone-opened) alone-done))
+    eq-eqb _ 2 (ap (λ (v : Node). v .phase) (step-node (c .before .before .before .before .before .step .ensures) alone
+    (opening-node (c .before .before .before .before .before .before .before .before .before .before .before .before .before .before .before .«open» .ensures) (fresh 1 0 0) (made-node 1 0 0 _ (c .before .before .before .before .before .before .before .before .before .before .before .before .before .before .before .before .before .before .new .ensures) alone-made) alone-opens ∙ alone-opened) alone-done))
 
 returns : tie.Need-returns
 returns c = search needs

@@ -19,7 +19,8 @@ open-requires c κs = search needs
 
 returns : tie.Need-returns
 returns c =
-    opening-node (c .before .before .«open» .ensures) (fresh 3 1 1) (made-node 3 1 1 _ (c .before .before .before .before .before .new .ensures) three-made) three-opens ∙ three-opened
+    opening-node (c .before .before .«open» .ensures) (fresh 3 1 1)
+    (made-node 3 1 1 _ (c .before .before .before .before .before .new .ensures) three-made) three-opens ∙ three-opened
 
 pub opened-spec : {M : Type 1} → statement M
 opened-spec = tie.close (tie.spec new-requires slice-aggregate-open open-requires returns)

@@ -20,19 +20,24 @@ expect-requires : tie.Need-expect-requires
 expect-requires c κs = answered (c .before .with-entry .ensures) three (c .before .before .tray-of-three .ensures) done new-is-done
 
 expect-requires-2 : tie.Need-expect-requires-2
-expect-requires-2 c κs = eq-eqb _ 4 (ap (λ (t : Tray). t .count) (left (c .before .before .before .before .with-entry .ensures) three (c .before .before .before .before .before .tray-of-three .ensures) new-is-done))
+expect-requires-2 c κs = eq-eqb _ 4 (ap (λ (t : Tray). t .count)
+    (left (c .before .before .before .before .with-entry .ensures) three (c .before .before .before .before .before .tray-of-three .ensures) new-is-done))
 
 array-read-expect : tie.Need-array-read-expect
 array-read-expect c = search needs
 
 expect-requires-3 : tie.Need-expect-requires-3
-expect-requires-3 c κs = eq-eqb _ 30 (ap (λ (t : Tray). getD (t .entries) 2 0) (left (c .before .before .before .before .before .before .with-entry .ensures) three (c .before .before .before .before .before .before .before .tray-of-three .ensures) new-is-done))
+expect-requires-3 c κs = eq-eqb _ 30 (ap (λ (t : Tray). getD (t .entries) 2 0)
+    (left (c .before .before .before .before .before .before .with-entry .ensures) three
+    (c .before .before .before .before .before .before .before .tray-of-three .ensures) new-is-done))
 
 array-read-expect-2 : tie.Need-array-read-expect-2
 array-read-expect-2 c = search needs
 
 expect-requires-4 : tie.Need-expect-requires-4
-expect-requires-4 c κs = eq-eqb _ 40 (ap (λ (t : Tray). getD (t .entries) 3 0) (left (c .before .before .before .before .before .before .before .with-entry .ensures) three (c .before .before .before .before .before .before .before .before .tray-of-three .ensures) new-is-done))
+expect-requires-4 c κs = eq-eqb _ 40 (ap (λ (t : Tray). getD (t .entries) 3 0)
+    (left (c .before .before .before .before .before .before .before .with-entry .ensures) three
+    (c .before .before .before .before .before .before .before .before .tray-of-three .ensures) new-is-done))
 
 returns : tie.Need-returns
 returns c = search needs

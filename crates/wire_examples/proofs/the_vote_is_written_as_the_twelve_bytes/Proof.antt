@@ -24,7 +24,8 @@ is-length-requires : tie.Need-is-length-requires
 is-length-requires c κs = search needs
 
 expect-requires : tie.Need-expect-requires
-expect-requires c κs = c .is-length .ensures ∙ ap (λ (a : Written). isLength a 12) (write-record-determined 3 said (replicate 13 7) _ _ _ _ (c .before .before .write-record .ensures) twelve-written .0)
+expect-requires c κs = c .is-length .ensures ∙ ap (λ (a : Written). isLength a 12)
+    (write-record-determined 3 said (replicate 13 7) _ _ _ _ (c .before .before .write-record .ensures) twelve-written .0)
 
 slice-aggregate-same : tie.Need-slice-aggregate-same
 slice-aggregate-same c =

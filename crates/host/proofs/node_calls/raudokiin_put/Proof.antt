@@ -55,7 +55,8 @@ stayed = (gave-ref (0 ∷ []) tt (plain (λ _. R)), (stay-none (λ _. u64) yes, 
 abbrev Puts : {M : Type 1} (𝓤 : URA M) (H : Heap 𝓤) (A : Atoms 𝓤) (mem : Memory → SProp 𝓤) (run : Routine → Fun 𝓤) → Contract 𝓤
 Puts 𝓤 H A mem run = tripleOf 𝓤 H A put.signature (put.spec 𝓤 H A mem run)
 
-module _ {M : Type 1} (𝓤 : URA M) (H : Heap 𝓤) (A : Atoms 𝓤) (W : Given 𝓤 H A) (at-mem : Memory → SProp 𝓤) (run : Routine → Fun 𝓤) (κ : Lft) (q : Share) (b o : ℕ) (γ : GName) (t : Tray) (e : ℕ) (e-fits : e < 2 ^ 64) where
+module _ {M : Type 1} (𝓤 : URA M) (H : Heap 𝓤) (A : Atoms 𝓤) (W : Given 𝓤 H A) (at-mem : Memory → SProp 𝓤) (run : Routine → Fun 𝓤) (κ : Lft)
+    (q : Share) (b o : ℕ) (γ : GName) (t : Tray) (e : ℕ) (e-fits : e < 2 ^ 64) where
   abbrev Arg : Type 0
   Arg = RefT Tray × (ℕ × Unit {0})
 
@@ -92,14 +93,18 @@ module _ {M : Type 1} (𝓤 : URA M) (H : Heap 𝓤) (A : Atoms 𝓤) (W : Given
     walk : ent 𝓤 Entry (WpFn 𝓤 H C Λ code.function (vptr b o ∷ vint w64 e ∷ []) Post)
     walk =
         qed W ((‵ (flft κ q) ⊛ ‵ ftrue) ∷ ‵ (owns (MutRef (named 0) κ R ∷ u64 ∷ []) a vals) ∷ []) ∵ enter ! C Λ code.function (vptr b o ∷ vint w64 e ∷ []) _ $
-        alloc1 ! (λ l₀. alloc1 ! (λ l₁. alloc1 ! (λ l₂. alloc1 ! (λ l₃. alloc0 ! $ params1 ! $ pass1 ! (init ! 4 refl (tt, tt)) $ pass1 ! (init ! 2 refl (tt, record { fits = e-fits })) $ pass0 ! $
+        alloc1 ! (λ l₀. alloc1 ! (λ l₁. alloc1 ! (λ l₂. alloc1 !
+        (λ l₃. alloc0 ! $ params1 ! $ pass1 ! (init ! 4 refl (tt, tt)) $ pass1 ! (init ! 2 refl (tt, record { fits = e-fits })) $ pass0 ! $
         -- [_3; …; _2; …; _1; …; room for _0; …; the token; what the parameters own]
         assigns ! (addr ! (from ! (hop ! (look ! 4 refl) (stop !)))) (from ! (stop !)) (init ! 0 refl (tt, tt)) $
         move ! (8 ∷ 9 ∷ []) $ use2 W (raw (Puts 𝓤 H A at-mem run .pre at-call)) goes $
-        calls-at ! fm (Puts 𝓤 H A at-mem run) known at-call (and-then ! (load ! (from ! (stop !)) (look ! 1 refl)) (and-then ! (load ! (from ! (stop !)) (look ! 3 refl)) (no-more !))) (λ w.
-        use1 W (later (some (λ (r : ℕ). ((‵ (flft κ q) ⊛ ‵ ftrue) ⊛ ‵ (u8 .own r (w ∷ []))) ⊛ raw (ensured 𝓤 H A put.ended (put.clauses 𝓤 H A at-mem run) (κ, tt) a tt r)))) (id⊢ 𝓤 _) $ await ! tt $ pick ! (λ r.
+        calls-at ! fm (Puts 𝓤 H A at-mem run) known at-call (and-then ! (load ! (from ! (stop !)) (look ! 1 refl))
+        (and-then ! (load ! (from ! (stop !)) (look ! 3 refl)) (no-more !))) (λ w.
+        use1 W (later (some (λ (r : ℕ). ((‵ (flft κ q) ⊛ ‵ ftrue) ⊛ ‵ (u8 .own r (w ∷ []))) ⊛ raw
+        (ensured 𝓤 H A put.ended (put.clauses 𝓤 H A at-mem run) (κ, tt) a tt r)))) (id⊢ 𝓤 _) $ await ! tt $ pick ! (λ r.
         -- what `put` ensures, at some last value
-        split ! $ move ! (1 ∷ []) $ use1 W (some (λ (zs : Tray × (Unit {0} × Unit {0})). ‵ (lasts put.ended (κ, tt) a zs) ⊛ raw (fact 𝓤 (Says r (zs .0))))) (id⊢ 𝓤 _) $ pick ! (λ zs.
+        split ! $ move ! (1 ∷ []) $ use1 W (some (λ (zs : Tray × (Unit {0} × Unit {0})). ‵ (lasts put.ended (κ, tt) a zs) ⊛ raw
+        (fact 𝓤 (Says r (zs .0))))) (id⊢ 𝓤 _) $ pick ! (λ zs.
         split ! $ move ! (1 ∷ []) $ heard ! (Says r (zs .0)) (λ s. fsplit ! $ move ! (2 ∷ []) $ split ! $ move ! (1 ∷ 0 ∷ []) $
         -- [what the answer owns; the token; the last value; true; _3; …; _2; …; _1; …; room for _0; …]
         peeks ! u8 (Is u8) (shows 𝓤 H A u8) r (w ∷ []) (λ is.
@@ -109,11 +114,15 @@ module _ {M : Type 1} (𝓤 : URA M) (H : Heap 𝓤) (A : Atoms 𝓤) (W : Given
         keep ! (0 ∷ 1 ∷ 2 ∷ []) $ by ! (exits w r (zs .0) s))))))))))
 
 module _ {M : Type 1} (𝓤 : URA M) (H : Heap 𝓤) (A : Atoms 𝓤) (W : Given 𝓤 H A) (mem : Memory → SProp 𝓤) (run : Routine → Fun 𝓤) where
-  walks : (C : Calls 𝓤 H) (Λ : Loops 𝓤 H) → FmC 𝓤 H (W .laws) C → Triple 𝓤 (C #tray·put) (Puts 𝓤 H A mem run) → Walks 𝓤 H A here.ended stayed (WpFn 𝓤 H C Λ code.function) (here.clauses 𝓤 H A mem run)
-  walks C Λ fm known = walked 𝓤 H A here.ended stayed (here.clauses 𝓤 H A mem run) (WpFn 𝓤 H C Λ code.function) (λ κs. (ptr-vals, (uint-vals w64, tt))) (λ κs. (mut-tells (named 0) (κs .0) R, (uint-tells w64, tt)))
-      (λ κs qs bounds a g are. via 𝓤 _ (fst∗ 𝓤 _ (emp 𝓤)) (walk 𝓤 H A W mem run (κs .0) (qs .0) (a .0 .ptr .0) (a .0 .ptr .1) (a .0 .name) (a .0 .now) (a .1 .0) (are .1 .0 .1) C Λ fm known))
+  walks : (C : Calls 𝓤 H) (Λ : Loops 𝓤 H) → FmC 𝓤 H (W .laws) C → Triple 𝓤 (C #tray·put) (Puts 𝓤 H A mem run) → Walks 𝓤 H A here.ended stayed
+      (WpFn 𝓤 H C Λ code.function) (here.clauses 𝓤 H A mem run)
+  walks C Λ fm known = walked 𝓤 H A here.ended stayed (here.clauses 𝓤 H A mem run) (WpFn 𝓤 H C Λ code.function)
+      (λ κs. (ptr-vals, (uint-vals w64, tt))) (λ κs. (mut-tells (named 0) (κs .0) R, (uint-tells w64, tt)))
+      (λ κs qs bounds a g are. via 𝓤 _ (fst∗ 𝓤 _ (emp 𝓤)) (walk 𝓤 H A W mem run (κs .0) (qs .0) (a .0 .ptr .0) (a .0 .ptr .1) (a .0 .name) (a .0 .now)
+      (a .1 .0) (are .1 .0 .1) C Λ fm known))
 
-meets : {M : Type 1} (𝓤 : URA M) (H : Heap 𝓤) (A : Atoms 𝓤) → Given 𝓤 H A → (mem : Memory → SProp 𝓤) (run : Routine → Fun 𝓤) (𝓣 : Tables 𝓤 H) → Triple 𝓤 (𝓣 .C #tray·put) (Puts 𝓤 H A mem run)
+meets : {M : Type 1} (𝓤 : URA M) (H : Heap 𝓤) (A : Atoms 𝓤) → Given 𝓤 H A → (mem : Memory → SProp 𝓤) (run : Routine → Fun 𝓤) (𝓣 : Tables 𝓤 H)
+    → Triple 𝓤 (𝓣 .C #tray·put) (Puts 𝓤 H A mem run)
     → Meets 𝓤 H A here.signature (WpFn 𝓤 H (𝓣 .C) (𝓣 .Λ) code.function) (here.spec 𝓤 H A mem run)
 meets 𝓤 H A W mem run 𝓣 known =
     walk-meets 𝓤 H A here.ended stayed W (goes-gave-ref 𝓤 H A W 1 0 tt (plain (λ _. R)), (goes-none 𝓤 H A W 1 (λ _. u64) yes (λ κs x f. refl), tt)) (here.clauses 𝓤 H A mem run)

@@ -45,8 +45,11 @@ returns c =
     let a = c .before .before .before .args in
     let l = c .before .loop in
     let all : l .i ≡ a .size = omega arith in
-    let size = length-take-le (a .size) (now (a .bytes)) (omega arith) in
-    (sym size, l .inv .2 ∙ ap (λ (k : ℕ). take k (now (a .bytes)) ++ drop k (now (a .output))) all ∙ ap (λ (k : ℕ). take (a .size) (now (a .bytes)) ++ drop k (now (a .output))) (sym size))
+    let size = length-take-le (a .size) (now (a .bytes)) (omega arith) in (
+      sym size,
+      l .inv .2 ∙ ap (λ (k : ℕ). take k (now (a .bytes)) ++ drop k (now (a .output))) all ∙ ap
+          (λ (k : ℕ). take (a .size) (now (a .bytes)) ++ drop k (now (a .output))) (sym size),
+    )
 
 pub copy-spec : {M : Type 1} → statement M
 copy-spec =

@@ -18,7 +18,8 @@ use Rattle.played.proofs.inboxes.put_inbox.Statement.{statement}
 use Rattle.played.proofs.inboxes.put_inbox.Tie as tie
 
 abbrev Inv-loop : tie.InvT-loop
-Inv-loop s n faulty r i inbox₀ outboxes at₀ j₀ inbox at j = (j ≤ n) × (length inbox ≡ length inbox₀) × Slotted (λ k. messageTo s faulty r i k (outboxAt outboxes k)) inbox₀ j at inbox
+Inv-loop s n faulty r i inbox₀ outboxes at₀ j₀ inbox at j = (j ≤ n) × (length inbox ≡ length inbox₀) × Slotted
+    (λ k. messageTo s faulty r i k (outboxAt outboxes k)) inbox₀ j at inbox
 
 abbrev μ-loop : tie.MeasureT-loop
 μ-loop s n faulty r i inbox₀ outboxes at₀ j₀ inbox at j = n - j
@@ -84,8 +85,12 @@ loop-again : tie.Need-loop-again Inv-loop μ-loop
 loop-again c =
     let a = c .before .before .before .before .before .before .before .before .before .args in
     let l = c .before .before .before .before .before .before .loop in
-    let t = turn (c .before .before) in
-    (omega arith, slotted-length _ (now (a .inbox)) _ _ _ (omega (arith, t .low, c .before .before .before .before .before .before .before .before .before .pre .0, c .before .before .before .before .before .before .before .before .before .pre .2)) t, t)
+    let t = turn (c .before .before) in (
+      omega arith,
+      slotted-length _ (now (a .inbox)) _ _ _ (omega
+          (arith, t .low, c .before .before .before .before .before .before .before .before .before .pre .0, c .before .before .before .before .before .before .before .before .before .pre .2)) t,
+      t,
+    )
 
 same-length : tie.Need-same-length Inv-loop μ-loop
 same-length c = search needs

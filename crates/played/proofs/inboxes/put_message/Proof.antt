@@ -28,8 +28,10 @@ same-length c = search needs
 returns-2 : tie.Need-returns-2
 returns-2 c =
     let a = c .before .before .before .before .before .before .before .before .args in
-    let e = from-faulty (now (a .s)) (a .faulty) (a .r) (a .i) (a .j) (a .t6) (c .before .before .before .before .before .if1 .left) (c .before .before .before .before .if2 .taken) in
-    is-put (now (a .s)) (a .faulty) (a .r) (a .i) (a .j) (a .t6) _ _ _ _ e (put-written _ _ _ _ (omega (arith, c .before .before .before .before .before .before .before .before .pre .1)) (c .before .before .message-into .ensures))
+    let e = from-faulty (now (a .s)) (a .faulty) (a .r) (a .i) (a .j) (a .t6) (c .before .before .before .before .before .if1 .left)
+    (c .before .before .before .before .if2 .taken) in
+    is-put (now (a .s)) (a .faulty) (a .r) (a .i) (a .j) (a .t6) _ _ _ _ e
+    (put-written _ _ _ _ (omega (arith, c .before .before .before .before .before .before .before .before .pre .1)) (c .before .before .message-into .ensures))
 
 copy-requires : tie.Need-copy-requires
 copy-requires c κs = (c .before .before .before .before .before .before .before .pre .2, c .before .before .before .before .before .before .before .pre .3)
@@ -40,7 +42,8 @@ same-length-2 c = search needs
 returns-3 : tie.Need-returns-3
 returns-3 c =
     let a = c .before .before .before .before .before .before .before .before .before .before .args in
-    let e = from-correct (now (a .s)) (a .faulty) (a .r) (a .i) (a .j) (a .t6) (c .before .before .before .before .before .before .before .if1 .left) (c .before .before .before .before .before .before .if2 .left) in
+    let e = from-correct (now (a .s)) (a .faulty) (a .r) (a .i) (a .j) (a .t6) (c .before .before .before .before .before .before .before .if1 .left)
+    (c .before .before .before .before .before .before .if2 .left) in
     is-put (now (a .s)) (a .faulty) (a .r) (a .i) (a .j) (a .t6) _ _ _ _ e (c .before .before .copy .ensures)
 
 pub put-message-spec : {M : Type 1} → statement M

@@ -36,7 +36,8 @@ slice-write-output-2 c = simp length-set (omega arith)
 add-result : tie.Need-add-result
 add-result c =
     let a = c .before .before .before .before .before .before .args in
-    let h = short (now (a .s)) (a .faulty) (a .r) (a .i) (a .j) (a .its) (c .before .before .before .before .before .before .pre .1) (c .before .before .before .before .before .before .pre .2) in
+    let h = short (now (a .s)) (a .faulty) (a .r) (a .i) (a .j) (a .its) (c .before .before .before .before .before .before .pre .1)
+    (c .before .before .before .before .before .before .pre .2) in
     record { fits = omega (arith, c .before .before .put-message .ensures .0) }
 
 same-length : tie.Need-same-length

@@ -19,7 +19,8 @@ not-played-requires c κs = search needs
 returns : tie.Need-returns
 returns c =
     let a = c .before .before .before .before .before .before .before .args in
-    other-nodes (now (a .s)) (a .n) (a .f) _ _ _ _ (c .before .before .before .nodes .given .1) (c .before .before .before .before .before .check-form .ensures) (c .before .if1 .taken) (c .not-played .ensures)
+    other-nodes (now (a .s)) (a .n) (a .f) _ _ _ _ (c .before .before .before .nodes .given .1)
+    (c .before .before .before .before .before .check-form .ensures) (c .before .if1 .taken) (c .not-played .ensures)
 
 not-played-requires-2 : tie.Need-not-played-requires-2
 not-played-requires-2 c κs = search needs
@@ -27,7 +28,8 @@ not-played-requires-2 c κs = search needs
 returns-2 : tie.Need-returns-2
 returns-2 c =
     let a = c .before .before .before .before .before .before .before .before .args in
-    other-faults (now (a .s)) (a .n) (a .f) _ _ _ _ (c .before .before .before .before .nodes .given .1) (c .before .before .before .before .before .before .check-form .ensures) (c .before .if2 .taken) (c .not-played2 .ensures)
+    other-faults (now (a .s)) (a .n) (a .f) _ _ _ _ (c .before .before .before .before .nodes .given .1)
+    (c .before .before .before .before .before .before .check-form .ensures) (c .before .if2 .taken) (c .not-played2 .ensures)
 
 play-good-requires : tie.Need-play-good-requires
 play-good-requires c κs =
@@ -42,7 +44,8 @@ not-played-requires-3 c κs = search needs
 returns-3 : tie.Need-returns-3
 returns-3 c =
     let a = c .before .before .before .before .before .before .before .before .args in
-    is-good (now (a .s)) (a .n) (a .f) _ _ (c .before .before .before .before .nodes .given .1 ∙ ap₂ Good (c .before .before .if1 .left) (c .before .if2 .left)) (c .before .before .before .before .before .before .check-form .ensures) (c .play-good .ensures)
+    is-good (now (a .s)) (a .n) (a .f) _ _ (c .before .before .before .before .nodes .given .1 ∙ ap₂ Good (c .before .before .if1 .left)
+    (c .before .if2 .left)) (c .before .before .before .before .before .before .check-form .ensures) (c .play-good .ensures)
 
 returns-4 : tie.Need-returns-4
 returns-4 c =

@@ -27,20 +27,29 @@ abbrev μ-loop : tie.MeasureT-loop
 μ-loop s n f faulty count here₀ k₀ here k = count - k
 
 -- the k-th send is there
-inside : (c : tie.After-known-told Inv-loop μ-loop) → c .before .before .before .before .before .loop .k < length (sendsOf (now (c .before .before .before .before .before .before .before .before .before .before .args .s)))
+inside : (c : tie.After-known-told Inv-loop μ-loop) → c .before .before .before .before .before .loop .k < length
+    (sendsOf (now (c .before .before .before .before .before .before .before .before .before .before .args .s)))
 inside c = omega (arith, c .before .before .before .before .loop-test .taken, c .before .before .before .before .before .before .before .send-count .ensures)
 
 -- its numbers
 sent : (c : tie.After-known-told Inv-loop μ-loop)
-    → let v = c .before .round .given .0 in Sent (v .0) (v .1 .0) (v .1 .1 .0) ≡ sendingAt (sendsOf (now (c .before .before .before .before .before .before .before .before .before .before .args .s))) (c .before .before .before .before .before .loop .k)
+    → let v = c .before .round .given .0 in
+    Sent (v .0) (v .1 .0) (v .1 .1 .0) ≡ sendingAt (sendsOf (now
+    (c .before .before .before .before .before .before .before .before .before .before .args .s))) (c .before .before .before .before .before .loop .k)
 sent c = sym (c .before .round .given .1) ∙ c .before .before .before .send-at .ensures
 
 numbers : (c : tie.After-known-told Inv-loop μ-loop)
-    → let v = c .before .round .given .0 in let x = sendAt (sendsOf (now (c .before .before .before .before .before .before .before .before .before .before .args .s))) (c .before .before .before .before .before .loop .k) in (v .0 ≡ x .round) × (v .1 .0 ≡ x .from) × (v .1 .1 .0 ≡ x .to)
-numbers c = sent-numbers (sendsOf (now (c .before .before .before .before .before .before .before .before .before .before .args .s))) (c .before .before .before .before .before .loop .k) _ _ _ (inside c) (sent c)
+    → let v = c .before .round .given .0 in
+    let x = sendAt (sendsOf (now (c .before .before .before .before .before .before .before .before .before .before .args .s)))
+    (c .before .before .before .before .before .loop .k) in
+    (v .0 ≡ x .round) × (v .1 .0 ≡ x .from) × (v .1 .1 .0 ≡ x .to)
+numbers c = sent-numbers (sendsOf (now (c .before .before .before .before .before .before .before .before .before .before .args .s)))
+    (c .before .before .before .before .before .loop .k) _ _ _ (inside c) (sent c)
 
 -- what is answered of it is the rule's answer
-rule : (c : tie.After-breaks-send Inv-loop μ-loop) → let a = c .before .before .before .before .before .before .before .before .before .before .before .before .before .args in let x = sendAt (sendsOf (now (a .s))) (c .before .before .before .before .before .before .before .before .loop .k) in
+rule : (c : tie.After-breaks-send Inv-loop μ-loop)
+    → let a = c .before .before .before .before .before .before .before .before .before .before .before .before .before .args in
+    let x = sendAt (sendsOf (now (a .s))) (c .before .before .before .before .before .before .before .before .loop .k) in
     c .breaks-send .result ≡ breaksRule (hallOf (now (a .s)) (a .n) (a .f)) (x .round) (x .message)
 rule c =
     let a = c .before .before .before .before .before .before .before .before .before .before .before .before .before .args in
@@ -81,7 +90,12 @@ advance-to-requires c κs =
         stands = l .inv .2;
       },
       omega (arith, q .0, l .inv .4 (c .before .before .before .before .loop-test .taken)),
-      omega (arith, q .0, send-fits (now (a .s)) (a .n) (a .f) (c .before .before .before .before .before .before .before .before .before .before .pre) (l .k) (inside c) .round-most),
+      omega (
+        arith,
+        q .0,
+        send-fits (now (a .s)) (a .n) (a .f)
+            (c .before .before .before .before .before .before .before .before .before .before .pre) (l .k) (inside c) .round-most,
+      ),
     )
 
 breaks-send-requires : tie.Need-breaks-send-requires Inv-loop μ-loop
@@ -95,12 +109,27 @@ add-not-played c = search needs
 add-not-played-2 : tie.Need-add-not-played-2 Inv-loop μ-loop
 add-not-played-2 c =
     let a = c .before .before .before .before .before .before .before .before .before .before .before .before .before .before .args in
-    record { fits = omega (arith, nodes-most (now (a .s)) (a .n) (a .f) (c .before .before .before .before .before .before .before .before .before .before .before .before .before .before .pre)) }
+    record {
+      fits = omega (
+        arith,
+        nodes-most (now (a .s)) (a .n) (a .f)
+            (c .before .before .before .before .before .before .before .before .before .before .before .before .before .before .pre),
+      );
+    }
 
 add-not-played-3 : tie.Need-add-not-played-3 Inv-loop μ-loop
 add-not-played-3 c =
     let a = c .before .before .before .before .before .before .before .before .before .before .before .before .before .before .args in
-    record { fits = omega (arith, nodes-most (now (a .s)) (a .n) (a .f) (c .before .before .before .before .before .before .before .before .before .before .before .before .before .before .pre), nodes-above (now (a .s)) (a .n) (a .f) (c .before .before .before .before .before .before .before .before .before .before .before .before .before .before .pre), send-few (now (a .s)) (a .n) (a .f) (c .before .before .before .before .before .before .before .before .before .before .before .before .before .before .pre) _ (inside (c .before .before .before .before))) }
+    record {
+      fits = omega (
+        arith,
+        nodes-most (now (a .s)) (a .n) (a .f)
+            (c .before .before .before .before .before .before .before .before .before .before .before .before .before .before .pre),
+        nodes-above
+            (now (a .s)) (a .n) (a .f) (c .before .before .before .before .before .before .before .before .before .before .before .before .before .before .pre),
+        send-few (now (a .s)) (a .n) (a .f) (c .before .before .before .before .before .before .before .before .before .before .before .before .before .before .pre) _ (inside (c .before .before .before .before)),
+      );
+    }
 
 not-played-requires : tie.Need-not-played-requires Inv-loop μ-loop
 not-played-requires c κs = search needs
@@ -109,7 +138,8 @@ returns : tie.Need-returns Inv-loop μ-loop
 returns c =
     let a = c .before .before .before .before .before .before .before .before .before .before .before .before .before .before .before .args in
     let l = c .before .before .before .before .before .before .before .before .before .before .loop in
-    is-breach (now (a .s)) (a .n) (a .f) _ _ (l .inv .1 ∙ breaks-here (now (a .s)) (a .n) (a .f) (l .k) (inside (c .before .before .before .before .before)) _ (rule (c .before .before)) (c .before .if1 .taken)) (omega arith) (c .not-played .ensures)
+    is-breach (now (a .s)) (a .n) (a .f) _ _ (l .inv .1 ∙ breaks-here (now (a .s)) (a .n) (a .f) (l .k)
+    (inside (c .before .before .before .before .before)) _ (rule (c .before .before)) (c .before .if1 .taken)) (omega arith) (c .not-played .ensures)
 
 enum-told : tie.Need-enum-told Inv-loop μ-loop
 enum-told c = search needs
@@ -121,7 +151,8 @@ returns-2 : tie.Need-returns-2 Inv-loop μ-loop
 returns-2 c =
     let a = c .before .before .before .before .before .before .before .before .before .before .args in
     let l = c .before .before .before .before .before .loop in
-    absurd (never-none (sendsOf (now (a .s))) (l .k) (omega (arith, c .before .before .before .before .before .before .before .send-count .ensures)) (sym (c .before .enum-told .given .1) ∙ c .before .before .before .send-at .ensures))
+    absurd (never-none (sendsOf (now (a .s))) (l .k) (omega (arith, c .before .before .before .before .before .before .before .send-count .ensures))
+    (sym (c .before .enum-told .given .1) ∙ c .before .before .before .send-at .ensures))
 
 add-k : tie.Need-add-k Inv-loop μ-loop
 add-k c = search needs
@@ -140,14 +171,35 @@ loop-again c =
       omega arith,
       l .inv .1 ∙ breaks-later (now (a .s)) (a .n) (a .f) (l .k) (inside (c .before .before .before .before)) _ (rule (c .before)) (c .if1 .left),
       stands-there hall _ _ e,
-      omega (arith, z, q .0, send-fits (now (a .s)) (a .n) (a .f) (c .before .before .before .before .before .before .before .before .before .before .before .before .before .before .pre) (l .k) (inside (c .before .before .before .before)) .round-most),
-      λ more. omega (arith, z, q .0, send-rounds (now (a .s)) (a .n) (a .f) (c .before .before .before .before .before .before .before .before .before .before .before .before .before .before .pre) (l .k) (omega (arith, more, c .before .before .before .before .before .before .before .before .before .before .before .send-count .ensures))),
+      omega (
+        arith,
+        z,
+        q .0,
+        send-fits (now (a .s)) (a .n) (a .f)
+            (c .before .before .before .before .before .before .before .before .before .before .before .before .before .before .pre) (l .k)
+            (inside (c .before .before .before .before)) .round-most,
+      ),
+      λ more. omega (
+        arith,
+        z,
+        q .0,
+        send-rounds (now (a .s)) (a .n) (a .f)
+            (c .before .before .before .before .before .before .before .before .before .before .before .before .before .before .pre) (l .k)
+            (omega (arith, more, c .before .before .before .before .before .before .before .before .before .before .before .send-count .ensures)),
+      ),
     )
 
 add-advance-to : tie.Need-add-advance-to Inv-loop μ-loop
 add-advance-to c =
     let a = c .before .before .before .before .before .before .args in
-    record { fits = omega (arith, nodes-most (now (a .s)) (a .n) (a .f) (c .before .before .before .before .before .before .pre), nodes-above (now (a .s)) (a .n) (a .f) (c .before .before .before .before .before .before .pre)) }
+    record {
+      fits = omega (
+        arith,
+        nodes-most (now (a .s)) (a .n) (a .f) (c .before .before .before .before .before .before .pre),
+        nodes-above
+            (now (a .s)) (a .n) (a .f) (c .before .before .before .before .before .before .pre),
+      );
+    }
 
 advance-to-requires-2 : tie.Need-advance-to-requires-2 Inv-loop μ-loop
 advance-to-requires-2 c κs =
@@ -161,7 +213,8 @@ returns-3 : tie.Need-returns-3 Inv-loop μ-loop
 returns-3 c =
     let a = c .before .before .before .before .before .before .before .before .args in
     let l = c .before .before .before .loop in
-    is-played (now (a .s)) (a .n) (a .f) _ (l .inv .1 ∙ none-left (now (a .s)) (a .n) (a .f) (l .k) (omega (arith, c .before .before .before .before .before .send-count .ensures))) (c .before .advance-to2 .ensures)
+    is-played (now (a .s)) (a .n) (a .f) _ (l .inv .1 ∙ none-left (now (a .s)) (a .n) (a .f) (l .k)
+    (omega (arith, c .before .before .before .before .before .send-count .ensures))) (c .before .advance-to2 .ensures)
 
 pub play-good-spec : {M : Type 1} → statement M
 play-good-spec =

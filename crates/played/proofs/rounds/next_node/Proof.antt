@@ -30,7 +30,8 @@ returns-2 c =
     let a = c .before .before .before .before .args in
     let p = c .before .before .before .before .pre in
     let here = p .1 in
-    is-faulty (now (a .s)) (a .n) (a .f) (here .form) (a .faulty) (here .bits) (a .here) (here .stands) (a .i) (p .0) _ (omega arith) (omega (arith, c .before .if2 .taken)) (c .no-node2 .ensures)
+    is-faulty (now (a .s)) (a .n) (a .f) (here .form) (a .faulty) (here .bits) (a .here) (here .stands) (a .i) (p .0) _ (omega arith)
+    (omega (arith, c .before .if2 .taken)) (c .no-node2 .ensures)
 
 open-node-requires : tie.Need-open-node-requires
 open-node-requires c κs = search needs
@@ -40,7 +41,8 @@ returns-3 c =
     let a = c .before .before .before .before .before .args in
     let p = c .before .before .before .before .before .pre in
     let here = p .1 in
-    opens (now (a .s)) (a .n) (a .f) (here .form) (a .faulty) (here .bits) (a .here) (here .stands) (a .i) (p .0) (omega arith) (c .before .before .if2 .left) _ (c .before .if3 .taken) (c .open-node .ensures)
+    opens (now (a .s)) (a .n) (a .f) (here .form) (a .faulty) (here .bits) (a .here) (here .stands) (a .i) (p .0) (omega arith)
+    (c .before .before .if2 .left) _ (c .before .if3 .taken) (c .open-node .ensures)
 
 mul-node : tie.Need-mul-node
 mul-node c = search needs
@@ -60,7 +62,8 @@ returns-4 c =
     let a = c .before .before .before .before .before .before .before .before .args in
     let p = c .before .before .before .before .before .before .before .before .pre in
     let here = p .1 in
-    steps (now (a .s)) (a .n) (a .f) (here .form) (a .faulty) (here .bits) (a .here) (here .stands) (a .i) (p .0) (omega arith) (c .before .before .before .before .before .if2 .left) _ (c .before .before .before .before .if3 .left) (c .step-node .ensures)
+    steps (now (a .s)) (a .n) (a .f) (here .form) (a .faulty) (here .bits) (a .here) (here .stands) (a .i) (p .0) (omega arith)
+    (c .before .before .before .before .before .if2 .left) _ (c .before .before .before .before .if3 .left) (c .step-node .ensures)
 
 pub next-node-spec : {M : Type 1} → statement M
 next-node-spec =

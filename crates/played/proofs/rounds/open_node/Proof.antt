@@ -20,7 +20,9 @@ open-requires c κs = search needs
 returns : tie.Need-returns
 returns c =
     let a = c .before .before .before .before .before .before .before .before .args in
-    opened-stands (now (a .s)) (a .n) (a .f) (a .i) (c .before .before .before .before .before .before .new .result) (c .before .before .before .before .tray-of .result) (c .before .before .«open» .result) _ (c .before .before .before .before .before .before .new .ensures) (c .before .before .before .before .tray-of .ensures) (c .before .before .«open» .ensures)
+    opened-stands (now (a .s)) (a .n) (a .f) (a .i) (c .before .before .before .before .before .before .new .result)
+    (c .before .before .before .before .tray-of .result) (c .before .before .«open» .result) _
+    (c .before .before .before .before .before .before .new .ensures) (c .before .before .before .before .tray-of .ensures) (c .before .before .«open» .ensures)
 
 pub open-node-spec : {M : Type 1} → statement M
 open-node-spec =

@@ -43,7 +43,8 @@ returns c =
     let inbox = inboxTo (now (a .s)) (a .n) (a .faulty) (a .r) (a .i) (a .outboxes) in
     let after = c .before .before .step .last .1 .1 .0 in
     stepped-stands (a .node) inbox (c .before .before .step .result) after
-    (subst (λ (x : List ℕ). Step (a .node) x (replicate messageMost 0) (c .before .before .step .result) after) (read (c .before .before .before .before .before .before) .1) (c .before .before .step .ensures))
+    (subst (λ (x : List ℕ). Step (a .node) x (replicate messageMost 0) (c .before .before .step .result) after)
+    (read (c .before .before .before .before .before .before) .1) (c .before .before .step .ensures))
 
 pub step-node-spec : {M : Type 1} → statement M
 step-node-spec =

@@ -42,19 +42,25 @@ add-result : tie.Need-add-result
 add-result c =
     let wrote = c .before .before .before .before .before .before in
     let start = wrote .before .before .before .before .before in
-    omega (arith, both-fit (now (start .args .key)) (back (start .args .kind) (now (start .args .xs))) (now (start .args .output)) (start .pre) (wrote .bytes .ensures) (c .before .before .list-then-lf .ensures))
+    omega (
+      arith,
+      both-fit (now (start .args .key)) (back (start .args .kind) (now (start .args .xs))) (now (start .args .output)) (start .pre)
+          (wrote .bytes .ensures) (c .before .before .list-then-lf .ensures),
+    )
 
 same-length : tie.Need-same-length
 same-length c =
     let wrote = c .before .before .before .before .before .before in
     let start = wrote .before .before .before .before .before in
-    both-kept (now (start .args .key)) (back (start .args .kind) (now (start .args .xs))) (now (start .args .output)) (start .pre) (wrote .bytes .ensures) (c .before .before .list-then-lf .ensures)
+    both-kept (now (start .args .key)) (back (start .args .kind) (now (start .args .xs))) (now (start .args .output)) (start .pre)
+    (wrote .bytes .ensures) (c .before .before .list-then-lf .ensures)
 
 returns : tie.Need-returns
 returns c =
     let wrote = c .before .before .before .before .before .before in
     let start = wrote .before .before .before .before .before in
-    both-over (now (start .args .key)) (back (start .args .kind) (now (start .args .xs))) (now (start .args .output)) (start .pre) (wrote .bytes .ensures) (c .before .before .list-then-lf .ensures)
+    both-over (now (start .args .key)) (back (start .args .kind) (now (start .args .xs))) (now (start .args .output)) (start .pre)
+    (wrote .bytes .ensures) (c .before .before .list-then-lf .ensures)
 
 pub list-line-spec : {M : Type 1} → statement M
 list-line-spec =

@@ -44,7 +44,11 @@ add-result : tie.Need-add-result
 add-result c =
     let wrote = c .before .before .before .before .before .before in
     let start = wrote .before .before .before in
-    omega (arith, both-fit (front (start .args .x)) (back (start .args .x)) (now (start .args .output)) (start .pre) (wrote .number-then .ensures) (c .before .before .number .ensures))
+    omega (
+      arith,
+      both-fit (front (start .args .x)) (back (start .args .x)) (now (start .args .output)) (start .pre) (wrote .number-then .ensures)
+          (c .before .before .number .ensures),
+    )
 
 same-length : tie.Need-same-length
 same-length c =

@@ -41,7 +41,11 @@ add-result : tie.Need-add-result
 add-result c =
     let wrote = c .before .before .before .before .before .before in
     let start = wrote .before .before .before .before in
-    omega (arith, both-fit (now (start .args .key)) (back (start .args .v)) (now (start .args .output)) (start .pre) (wrote .bytes .ensures) (c .before .before .number-then .ensures))
+    omega (
+      arith,
+      both-fit (now (start .args .key)) (back (start .args .v)) (now (start .args .output)) (start .pre) (wrote .bytes .ensures)
+          (c .before .before .number-then .ensures),
+    )
 
 same-length : tie.Need-same-length
 same-length c =

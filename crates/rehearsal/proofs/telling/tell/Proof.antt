@@ -32,7 +32,9 @@ returns : tie.Need-returns
 returns c =
     let a = c .before .before .before .before .before .before .before .before .before .before .args in
     let told = c .before .before .tell-played in
-    good-told (now (a .schedule)) (now (a .text)) (told .result) _ _ _ (sym (c .before .before .before .before .before .before .before .check-form .ensures) ∙ c .before .before .before .before .before .n .given .1) (told .ensures)
+    good-told (now (a .schedule)) (now (a .text)) (told .result) _ _ _
+    (sym (c .before .before .before .before .before .before .before .check-form .ensures) ∙ c .before .before .before .before .before .n .given .1)
+    (told .ensures)
 
 same-length-2 : tie.Need-same-length-2
 same-length-2 c = search needs
@@ -41,7 +43,10 @@ returns-2 : tie.Need-returns-2
 returns-2 c =
     let a = c .before .before .before .before .before .before .before .before .before .before .before .args in
     let put = c .before .before .put-number-line in
-    bad-told (now (a .schedule)) (now (a .text)) (put .result) _ _ (sym (c .before .before .before .before .before .before .before .before .check-form .ensures) ∙ c .before .before .before .before .before .before .line .given .1) (omega (arith, c .before .before .before .before .before .known-told2 .given)) (put .ensures)
+    bad-told (now (a .schedule)) (now (a .text)) (put .result) _ _
+    (sym (c .before .before .before .before .before .before .before .before .check-form .ensures)
+    ∙ c .before .before .before .before .before .before .line .given .1)
+    (omega (arith, c .before .before .before .before .before .known-told2 .given)) (put .ensures)
 
 pub tell-spec : {M : Type 1} → statement M
 tell-spec =

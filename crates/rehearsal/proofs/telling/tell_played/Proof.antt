@@ -27,7 +27,8 @@ returns c =
     let put = c .before .before .put-number-line in
     let s = now (a .schedule) in
     bad-tells (play .result .bad) (playedText s (a .n) (a .f) (breach s (a .n) (a .f))) (now (a .text)) (put .result) _ (omega (arith, play .ok))
-    (broken s (a .n) (a .f) (c .before .before .before .before .before .before .before .before .before .pre) (play .result) (play .ensures) (omega (arith, c .before .before .before .before .before .if1 .taken))) (put .ensures)
+    (broken s (a .n) (a .f) (c .before .before .before .before .before .before .before .before .before .pre) (play .result) (play .ensures)
+    (omega (arith, c .before .before .before .before .before .if1 .taken))) (put .ensures)
 
 faulty-mask-requires : tie.Need-faulty-mask-requires
 faulty-mask-requires c κs = search needs
@@ -44,7 +45,9 @@ returns-2 c =
     let play = c .before .before .before .before .before .before .before .play in
     let mask = c .before .before .before .before .faulty-mask in
     let told = c .before .before .report-into in
-    report-tells (now (a .schedule)) (a .n) (a .f) (c .before .before .before .before .before .before .before .before .before .before .pre) (play .result) (play .ensures) (omega (arith, c .before .before .before .before .before .before .if1 .left)) (mask .result) (mask .ensures) (now (a .text)) (told .result) _ (told .ensures)
+    report-tells (now (a .schedule)) (a .n) (a .f) (c .before .before .before .before .before .before .before .before .before .before .pre)
+    (play .result) (play .ensures) (omega (arith, c .before .before .before .before .before .before .if1 .left)) (mask .result) (mask .ensures)
+    (now (a .text)) (told .result) _ (told .ensures)
 
 pub tell-played-spec : {M : Type 1} → statement M
 tell-played-spec =

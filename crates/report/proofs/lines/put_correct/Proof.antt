@@ -16,8 +16,11 @@ has-bit-requires c κs = search needs
 returns : tie.Need-returns
 returns c =
     let a = c .before .before .before .before .args in
-    let faulty = sym (c .before .has-bit .ensures) ∙ c .if1 .taken in
-    (writes-as _ _ _ _ _ (faulty-prints-none (a .faulty) (a .i) (nodeLines (a .i) (logIn (a .log)) (signersBy (a .n) (a .f) (a .i) (a .number) (now (a .slots)))) faulty) (writes-none (now (a .text))), λ f. absurd (clash faulty f))
+    let faulty = sym (c .before .has-bit .ensures) ∙ c .if1 .taken in (
+      writes-as _ _ _ _ _ (faulty-prints-none (a .faulty) (a .i)
+          (nodeLines (a .i) (logIn (a .log)) (signersBy (a .n) (a .f) (a .i) (a .number) (now (a .slots)))) faulty) (writes-none (now (a .text))),
+      λ f. absurd (clash faulty f),
+    )
 
 counted-requires : tie.Need-counted-requires
 counted-requires c κs = search needs
@@ -33,8 +36,12 @@ same-length c = search needs
 returns-2 : tie.Need-returns-2
 returns-2 c =
     let a = c .before .before .before .before .before .before .before .before .before .args in
-    let node = c .before .before .put-node in
-    (writes-as _ _ _ _ _ (correct-prints (a .faulty) (a .i) (a .n) (logIn (a .log)) _ _ (c .before .before .before .before .counted .ensures) (sym (c .before .before .before .before .before .before .has-bit .ensures) ∙ c .before .before .before .before .before .if1 .left)) (node .ensures .0), λ f. node .ensures .1)
+    let node = c .before .before .put-node in (
+      writes-as _ _ _ _ _ (correct-prints (a .faulty) (a .i) (a .n) (logIn (a .log)) _ _ (c .before .before .before .before .counted .ensures)
+          (sym (c .before .before .before .before .before .before .has-bit .ensures) ∙ c .before .before .before .before .before .if1 .left))
+          (node .ensures .0),
+      λ f. node .ensures .1,
+    )
 
 pub put-correct-spec : {M : Type 1} → statement M
 put-correct-spec =

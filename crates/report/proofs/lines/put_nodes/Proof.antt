@@ -17,7 +17,8 @@ use Rattle.report.proofs.lines.put_nodes.Tie as tie
 
 abbrev Inv-loop : tie.InvT-loop
 Inv-loop text₀ n f faulty slots logs numbers at₀ i₀ text at i =
-    (i ≤ n) × (length text ≡ length text₀) × Writes (linesText (allLines (hasBit faulty) (λ j. logIn (heldAt logs j)) (λ j. signersBy n f j (getD numbers j 0) slots) i)) text₀ at text
+    (i ≤ n) × (length text ≡ length text₀) × Writes (linesText
+    (allLines (hasBit faulty) (λ j. logIn (heldAt logs j)) (λ j. signersBy n f j (getD numbers j 0) slots) i)) text₀ at text
     × AllEntries (hasBit faulty) (λ j. logIn (heldAt logs j)) i
 
 abbrev μ-loop : tie.MeasureT-loop
@@ -25,8 +26,13 @@ abbrev μ-loop : tie.MeasureT-loop
 
 loop-holds : tie.Need-loop-holds Inv-loop μ-loop
 loop-holds c =
-    let a = c .before .before .args in
-    (omega arith, refl, writes-as _ _ _ _ _ (sym (no-nodes (hasBit (a .faulty)) (λ j. logIn (heldAt (a .t5) j)) (λ j. signersBy (a .n) (a .f) j (getD (a .t6) j 0) (now (a .slots))))) (writes-none (now (a .text))), λ j l. absurd (not-suc-le-zero l))
+    let a = c .before .before .args in (
+      omega arith,
+      refl,
+      writes-as _ _ _ _ _ (sym (no-nodes (hasBit (a .faulty)) (λ j. logIn (heldAt (a .t5) j))
+          (λ j. signersBy (a .n) (a .f) j (getD (a .t6) j 0) (now (a .slots))))) (writes-none (now (a .text))),
+      λ j l. absurd (not-suc-le-zero l),
+    )
 
 sub-put-correct : tie.Need-sub-put-correct Inv-loop μ-loop
 sub-put-correct c =
@@ -86,7 +92,8 @@ returns c =
     let a = c .before .before .before .before .args in
     let l = c .before .loop in
     let all : l .i ≡ a .n = omega arith in (
-      writes-as _ _ _ _ _ (ap (λ i. linesText (allLines (hasBit (a .faulty)) (λ j. logIn (heldAt (a .t5) j)) (λ j. signersBy (a .n) (a .f) j (getD (a .t6) j 0) (now (a .slots))) i)) all) (l .inv .2),
+      writes-as _ _ _ _ _ (ap (λ i. linesText (allLines (hasBit (a .faulty)) (λ j. logIn (heldAt (a .t5) j))
+          (λ j. signersBy (a .n) (a .f) j (getD (a .t6) j 0) (now (a .slots))) i)) all) (l .inv .2),
       subst (λ i. AllEntries (hasBit (a .faulty)) (λ j. logIn (heldAt (a .t5) j)) i) all (l .inv .3),
     )
 

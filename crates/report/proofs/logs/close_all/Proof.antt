@@ -21,8 +21,12 @@ abbrev μ-loop : tie.MeasureT-loop
 μ-loop n faulty nodes logs₀ i₀ logs i = n - i
 
 loop-holds : tie.Need-loop-holds Inv-loop μ-loop
-loop-holds c =
-    (omega arith, refl, none-held (hasBit (c .args .faulty)) (λ j. madeLog (nodeAt (c .args .t3) j)) (replicate nodesMost (record { count = 0; entries = replicate decidedMost 0 })))
+loop-holds c = (
+  omega arith,
+  refl,
+  none-held (hasBit (c .args .faulty)) (λ j. madeLog (nodeAt (c .args .t3) j))
+      (replicate nodesMost (record { count = 0; entries = replicate decidedMost 0 })),
+)
 
 mul-with-log : tie.Need-mul-with-log Inv-loop μ-loop
 mul-with-log c = search needs
@@ -42,8 +46,12 @@ loop-less c = search needs
 loop-again : tie.Need-loop-again Inv-loop μ-loop
 loop-again c =
     let a = c .before .before .before .before .args in
-    let l = c .before .before .before .loop in
-    (omega arith, held-places (a .faulty) (l .i) (l .logs) _ _ (c .with-log .ensures) ∙ l .inv .1, one-held (hasBit (a .faulty)) (λ j. madeLog (nodeAt (a .t3) j)) (l .i) (l .logs) _ (omega arith) (l .inv .2) (c .with-log .ensures))
+    let l = c .before .before .before .loop in (
+      omega arith,
+      held-places (a .faulty) (l .i) (l .logs) _ _ (c .with-log .ensures) ∙ l .inv .1,
+      one-held (hasBit (a .faulty))
+          (λ j. madeLog (nodeAt (a .t3) j)) (l .i) (l .logs) _ (omega arith) (l .inv .2) (c .with-log .ensures),
+    )
 
 returns : tie.Need-returns Inv-loop μ-loop
 returns c =

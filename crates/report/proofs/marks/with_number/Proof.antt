@@ -58,7 +58,8 @@ returns-3 c =
     let a = s .args in
     let f = sym (c .before .before .before .before .has-bit .ensures) ∙ c .before .before .before .if1 .left in
     let k = c .before .before .first-alike in
-    new-numbered (hasBit (a .faulty)) (λ j. logIn (heldAt (a .logs) j)) (a .i) (a .numbers) (s .pre .2) f (s .pre .0) (k .result) (k .ensures) (omega arith) _ (omega (arith, s .pre .2 .count, distinct-most (hasBit (a .faulty)) (λ j. logIn (heldAt (a .logs) j)) (a .i)))
+    new-numbered (hasBit (a .faulty)) (λ j. logIn (heldAt (a .logs) j)) (a .i) (a .numbers) (s .pre .2) f (s .pre .0) (k .result) (k .ensures)
+    (omega arith) _ (omega (arith, s .pre .2 .count, distinct-most (hasBit (a .faulty)) (λ j. logIn (heldAt (a .logs) j)) (a .i)))
 
 pub with-number-spec : {M : Type 1} → statement M
 with-number-spec =

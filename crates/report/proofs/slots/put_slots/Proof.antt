@@ -65,8 +65,13 @@ loop-again c =
     let s = c .before .before .before .before .before .before .before .before .before .before .before .before in
     let l = c .before .before .before .before .before .before .before .before .before .before .loop in
     let a = s .args in
-    let slot = c .before .before .before .before .before .before .before .slot-of .ensures ∙ ap (λ b. slotWith b (markWith (getD (a .t3) (l .j) 0))) (c .before .before .before .before .before .before .before .before .has-bit .ensures) in
-    (omega arith, search needs, next-spoken (hasBit (a .faulty)) (λ j. markWith (getD (a .t3) j 0)) (λ j. mark-size (getD (a .t3) j 0)) (now (a .output)) (l .output) (a .n) (l .j) (omega arith) (s .pre .1) (l .inv .2) _ slot (l .inv .1) _ _ (c .before .before .put-bytes .ensures))
+    let slot = c .before .before .before .before .before .before .before .slot-of .ensures ∙ ap (λ b. slotWith b (markWith (getD (a .t3) (l .j) 0)))
+    (c .before .before .before .before .before .before .before .before .has-bit .ensures) in (
+      omega arith,
+      search needs,
+      next-spoken (hasBit (a .faulty)) (λ j. markWith (getD (a .t3) j 0)) (λ j. mark-size (getD (a .t3) j 0))
+          (now (a .output)) (l .output) (a .n) (l .j) (omega arith) (s .pre .1) (l .inv .2) _ slot (l .inv .1) _ _ (c .before .before .put-bytes .ensures),
+    )
 
 mul-result : tie.Need-mul-result Inv-loop μ-loop
 mul-result c =
@@ -80,8 +85,11 @@ same-length c =
 returns : tie.Need-returns Inv-loop μ-loop
 returns c =
     let a = c .before .before .before .args in
-    let l = c .before .loop in
-    (refl, all-spoken (hasBit (a .faulty)) (λ j. markWith (getD (a .t3) j 0)) (λ j. mark-size (getD (a .t3) j 0)) (now (a .output)) (l .output) (a .n) (l .j) (omega arith) (l .inv .2))
+    let l = c .before .loop in (
+      refl,
+      all-spoken (hasBit (a .faulty)) (λ j. markWith (getD (a .t3) j 0)) (λ j. mark-size (getD (a .t3) j 0)) (now (a .output)) (l .output) (a .n)
+          (l .j) (omega arith) (l .inv .2),
+    )
 
 pub put-slots-spec : {M : Type 1} → statement M
 put-slots-spec =

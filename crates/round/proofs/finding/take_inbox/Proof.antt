@@ -35,14 +35,18 @@ abbrev μ-loop2 : tie.MeasureT-loop2
 μ-loop2 n me round inbox unreadable after₀ at sender start end message place₀ after place = length message - place
 
 abbrev Inv-loop : tie.InvT-loop
-Inv-loop n me round inbox unreadable after₀ at₀ sender₀ after at sender = (sender ≤ n) × (at ≤ length inbox) × (at ≡ placeOf inbox sender) × Passed n me round inbox unreadable after₀ after sender
+Inv-loop n me round inbox unreadable after₀ at₀ sender₀ after at sender = (sender ≤ n) × (at ≤ length inbox) × (at ≡ placeOf inbox sender)
+    × Passed n me round inbox unreadable after₀ after sender
 
 abbrev μ-loop : tie.MeasureT-loop
 μ-loop n me round inbox unreadable after₀ at₀ sender₀ after at sender = n - sender
 
 -- what the answer tells of the message at the place reached
 told : (c : tie.After-known-told Inv-loop2 μ-loop2 Inv-loop μ-loop)
-    → let a = c .before .before .before .before .before .before .before .args in let l = c .before .before .before .before .before .loop in let p = c .before .start .given .0 in Told (now (a .inbox)) (l .at) (p .0) (p .1 .0)
+    → let a = c .before .before .before .before .before .before .before .args in
+    let l = c .before .before .before .before .before .loop in
+    let p = c .before .start .given .0 in
+    Told (now (a .inbox)) (l .at) (p .0) (p .1 .0)
 told c =
     let a = c .before .before .before .before .before .before .before .args in
     let l = c .before .before .before .before .before .loop in
@@ -50,14 +54,24 @@ told c =
 
 -- what the answer tells of a record, in the arm of a vote
 vote : (c : tie.After-known-told2 Inv-loop2 μ-loop2 Inv-loop μ-loop)
-    → let a = c .before .before .before .before .before .before .before .before .before .before .before .before .before .before .before .before .before .args in let q = c .before .before .before .before .before .before .before .before .before .before .before .start .given .0 in let m = take (q .1 .0 - q .0) (drop (q .0) (now (a .inbox))) in let l = c .before .before .before .before .before .before .loop2 in let v = c .before .primary .given .0 in Record (a .n) (drop (l .place) m) (v .0) (v .1 .0) (v .1 .1 .0) (v .1 .1 .1 .0)
+    → let a = c .before .before .before .before .before .before .before .before .before .before .before .before .before .before .before .before .before .args in
+    let q = c .before .before .before .before .before .before .before .before .before .before .before .start .given .0 in
+    let m = take (q .1 .0 - q .0) (drop (q .0) (now (a .inbox))) in
+    let l = c .before .before .before .before .before .before .loop2 in
+    let v = c .before .primary .given .0 in
+    Record (a .n) (drop (l .place) m) (v .0) (v .1 .0) (v .1 .1 .0) (v .1 .1 .1 .0)
 vote c =
     let a = c .before .before .before .before .before .before .before .before .before .before .before .before .before .before .before .before .before .args in
     let r = subst (ReadRecord (a .n) _) (c .before .primary .given .1) (c .before .before .before .read-record .ensures) in
     vote-told (a .n) _ _ _ _ _ (rw rest-of at r)
 
 within : (c : tie.After-known-told2 Inv-loop2 μ-loop2 Inv-loop μ-loop)
-    → let a = c .before .before .before .before .before .before .before .before .before .before .before .before .before .before .before .before .before .args in let q = c .before .before .before .before .before .before .before .before .before .before .before .start .given .0 in let m = take (q .1 .0 - q .0) (drop (q .0) (now (a .inbox))) in let l = c .before .before .before .before .before .before .loop2 in let v = c .before .primary .given .0 in (4 ≤ v .1 .1 .1 .0) × (v .1 .1 .1 .0 ≤ length m - l .place)
+    → let a = c .before .before .before .before .before .before .before .before .before .before .before .before .before .before .before .before .before .args in
+    let q = c .before .before .before .before .before .before .before .before .before .before .before .start .given .0 in
+    let m = take (q .1 .0 - q .0) (drop (q .0) (now (a .inbox))) in
+    let l = c .before .before .before .before .before .before .loop2 in
+    let v = c .before .primary .given .0 in
+    (4 ≤ v .1 .1 .1 .0) × (v .1 .1 .1 .0 ≤ length m - l .place)
 within c =
     let a = c .before .before .before .before .before .before .before .before .before .before .before .before .before .before .before .before .before .args in
     let q = c .before .before .before .before .before .before .before .before .before .before .before .start .given .0 in
@@ -73,7 +87,11 @@ low c =
 
 -- the vote is taken up
 taken-up : (c : tie.Joined2 Inv-loop2 μ-loop2 Inv-loop μ-loop)
-    → let a = c .before .before .before .before .before .before .before .before .before .before .before .before .before .before .before .before .before .before .before .args in let q = c .before .before .before .before .before .before .before .before .before .before .before .before .before .start .given .0 in let m = take (q .1 .0 - q .0) (drop (q .0) (now (a .inbox))) in let l = c .before .before .before .before .before .before .before .before .loop2 in let v = c .before .before .before .primary .given .0 in
+    → let a = c .before .before .before .before .before .before .before .before .before .before .before .before .before .before .before .before .before .before .before .args in
+    let q = c .before .before .before .before .before .before .before .before .before .before .before .before .before .start .given .0 in
+    let m = take (q .1 .0 - q .0) (drop (q .0) (now (a .inbox))) in
+    let l = c .before .before .before .before .before .before .before .before .loop2 in
+    let v = c .before .before .before .primary .given .0 in
     Take (a .round) (l .after) (c .if2 .after) (others (a .me) (record { primary = v .0; mask = v .1 .0; batch = batchOf (drop (l .place) m) } ∷ []))
 taken-up c =
     let a = c .before .before .before .before .before .before .before .before .before .before .before .before .before .before .before .before .before .before .before .args in
@@ -99,7 +117,9 @@ taken-up c =
 
 -- the sender is passed
 turn : (c : tie.Joined1 Inv-loop2 μ-loop2 Inv-loop μ-loop)
-    → let a = c .before .before .before .before .before .before .before .before .before .args in let l = c .before .before .before .before .before .before .before .loop in Passed (a .n) (a .me) (a .round) (now (a .inbox)) (a .unreadable) (a .found) (c .if1 .after) (l .sender + 1)
+    → let a = c .before .before .before .before .before .before .before .before .before .args in
+    let l = c .before .before .before .before .before .before .before .loop in
+    Passed (a .n) (a .me) (a .round) (now (a .inbox)) (a .unreadable) (a .found) (c .if1 .after) (l .sender + 1)
 turn c =
     let a = c .before .before .before .before .before .before .before .before .before .args in
     let l = c .before .before .before .before .before .before .before .loop in
@@ -136,7 +156,8 @@ returns c =
     let a = c .before .before .before .before .before .before .args in
     let l = c .before .before .before .before .loop in
     let r = subst (MessageAt (now (a .inbox)) (l .at)) (c .enum-told .given .1) (c .before .before .message-at .ensures) in
-    no-message (a .n) (a .me) (a .round) (now (a .inbox)) (a .unreadable) (a .found) (l .after) (l .sender) (l .at) (l .inv .2) (l .inv .3) (omega arith) (missing-told (now (a .inbox)) (l .at) r)
+    no-message (a .n) (a .me) (a .round) (now (a .inbox)) (a .unreadable) (a .found) (l .after) (l .sender) (l .at) (l .inv .2) (l .inv .3)
+    (omega arith) (missing-told (now (a .inbox)) (l .at) r)
 
 is-heard-requires : tie.Need-is-heard-requires Inv-loop2 μ-loop2 Inv-loop μ-loop
 is-heard-requires c κs = search needs
@@ -151,7 +172,9 @@ part-message-end : tie.Need-part-message-end Inv-loop2 μ-loop2 Inv-loop μ-loop
 part-message-end c = let t = told (c .before .before) in omega (arith, t .end-is, t .fits)
 
 loop2-holds : tie.Need-loop2-holds Inv-loop2 μ-loop2 Inv-loop μ-loop
-loop2-holds c = let a = c .before .before .before .before .before .before .before .before .before .before .args in (omega arith, message-start (a .n) (a .me) (a .round) _ (c .before .before .before .before .before .before .before .before .loop .after))
+loop2-holds c =
+    let a = c .before .before .before .before .before .before .before .before .before .before .args in
+    (omega arith, message-start (a .n) (a .me) (a .round) _ (c .before .before .before .before .before .before .before .before .loop .after))
 
 sub-part : tie.Need-sub-part Inv-loop2 μ-loop2 Inv-loop μ-loop
 sub-part c = search needs

@@ -46,7 +46,8 @@ returns-3 : tie.Need-returns-3
 returns-3 c =
     let a = c .before .before .before .before .before .before .before .before .args in
     subst (λ (r : Stepped). Step (a .node) (now (a .inbox)) (now (a .outbox)) r (now (a .outbox))) (sym (c .refused3 .ensures))
-    (out-of-rounds (a .node) (now (a .inbox)) (now (a .outbox)) (sym (c .before .before .before .before .before .is-sound .ensures) ∙ not-false _ (c .before .before .before .before .if1 .left))
+    (out-of-rounds (a .node) (now (a .inbox)) (now (a .outbox))
+    (sym (c .before .before .before .before .before .is-sound .ensures) ∙ not-false _ (c .before .before .before .before .if1 .left))
     (after-rounds (a .node) (omega (arith, c .before .if3 .taken))))
 
 read-inbox-requires : tie.Need-read-inbox-requires
@@ -58,7 +59,8 @@ refused-requires-4 c κs = search needs
 returns-4 : tie.Need-returns-4
 returns-4 c =
     let a = c .before .before .before .before .before .before .before .before .before .before .before .args in
-    let fine = sym (c .before .before .before .before .before .before .before .before .is-sound .ensures) ∙ not-false _ (c .before .before .before .before .before .before .before .if1 .left) in
+    let fine = sym (c .before .before .before .before .before .before .before .before .is-sound .ensures) ∙ not-false _
+    (c .before .before .before .before .before .before .before .if1 .left) in
     subst (λ (r : Stepped). Step (a .node) (now (a .inbox)) (now (a .outbox)) r (now (a .outbox))) (sym (c .refused4 .ensures))
     (ill-cut (a .node) (now (a .inbox)) (now (a .outbox)) fine
     (in-rounds (a .node) (omega (arith, c .before .before .before .before .before .before .if2 .left)) (omega (arith, c .before .before .before .before .if3 .left)))
@@ -67,9 +69,15 @@ returns-4 c =
 take-requires : tie.Need-take-requires
 take-requires c κs =
     let a = c .before .before .before .before .before .before .before .before .before .before .before .args in
-    let fine = sym (c .before .before .before .before .before .before .before .before .is-sound .ensures) ∙ not-false _ (c .before .before .before .before .before .before .before .if1 .left) in
-    let t = cut-well (a .node) (now (a .inbox)) fine _ (c .before .before .before .read-inbox .ensures) (c .before .if4 .left) in
-    (fine, in-rounds (a .node) (omega (arith, c .before .before .before .before .before .before .if2 .left)) (omega (arith, c .before .before .before .before .if3 .left)), t .0, t .1)
+    let fine = sym (c .before .before .before .before .before .before .before .before .is-sound .ensures) ∙ not-false _
+    (c .before .before .before .before .before .before .before .if1 .left) in
+    let t = cut-well (a .node) (now (a .inbox)) fine _ (c .before .before .before .read-inbox .ensures) (c .before .if4 .left) in (
+      fine,
+      in-rounds (a .node) (omega (arith, c .before .before .before .before .before .before .if2 .left))
+          (omega (arith, c .before .before .before .before .if3 .left)),
+      t .0,
+      t .1,
+    )
 
 same-length : tie.Need-same-length
 same-length c =

@@ -55,7 +55,9 @@ returns c =
 
 -- there is room
 fits : (c : tie.Else1)
-    → let a = c .before .before .before .before .before .before .before .before .before .args in length (messageBytes (passedBelow (a .node .me) (a .node .kept) (c .before .before .before .take-inbox .result) (c .before .before .primaries-in .result))) ≤ length (now (a .outbox))
+    → let a = c .before .before .before .before .before .before .before .before .before .args in
+    length (messageBytes (passedBelow (a .node .me) (a .node .kept) (c .before .before .before .take-inbox .result)
+    (c .before .before .primaries-in .result))) ≤ length (now (a .outbox))
 fits c = let a = c .before .before .before .before .before .before .before .before .before .args in omega (arith, c .if1 .left, c .before .size-all .ensures .is (a .node .me))
 
 write-all-requires : tie.Need-write-all-requires
@@ -85,7 +87,9 @@ returns-2 c =
     let w = c .before .before .before .write-all .ensures in
     is-stepped (a .node) (now (a .inbox)) (now (a .outbox)) (s .pre .0) (s .pre .1) (s .pre .2) _ _
     (omega (arith, fits (c .before .before .before .before .before), t .size)) refl (w .size ∙ t .size) (s .pre .3)
-    (next-node (a .node) (now (a .inbox)) (s .pre .0) _ _ _ (s .pre .2) (s .pre .3) (c .before .before .before .before .before .before .before .before .before .begin .ensures) (c .before .before .before .before .before .before .before .before .take-inbox .ensures) _ (c .kept-in .ensures))
+    (next-node (a .node) (now (a .inbox)) (s .pre .0) _ _ _ (s .pre .2) (s .pre .3)
+    (c .before .before .before .before .before .before .before .before .before .begin .ensures)
+    (c .before .before .before .before .before .before .before .before .take-inbox .ensures) _ (c .kept-in .ensures))
     (w .outbox-is ∙ ap (λ (vs : List Vote). onto (messageBytes vs) (now (a .outbox))) (t .says))
 
 pub take-spec : {M : Type 1} → statement M

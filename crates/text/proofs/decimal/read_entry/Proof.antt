@@ -74,8 +74,10 @@ small c =
     let early = late .before .before .before .before .before in
     let s = now (early .before .before .before .before .before .args .s) in
     let m = field-small dot halfMost s _ (sym (early .before .meter .given .1) ∙ early .before .before .before .read-field .ensures) in
-    let i = field-small dot halfMost (now (late .before .before .before .before .past .result)) _ (sym (late .before .interval .given .1) ∙ late .before .before .before .read-field2 .ensures) in
-    let w = number-small wordMost (now (c .before .before .before .before .past2 .result)) _ (sym (c .before .watthours .given .1) ∙ c .before .before .before .read-number .ensures) in
+    let i = field-small dot halfMost (now (late .before .before .before .before .past .result)) _
+    (sym (late .before .interval .given .1) ∙ late .before .before .before .read-field2 .ensures) in
+    let w = number-small wordMost (now (c .before .before .before .before .past2 .result)) _
+    (sym (c .before .watthours .given .1) ∙ c .before .before .before .read-number .ensures) in
     (m, i, w)
 
 mul-t10 : tie.Need-mul-t10

@@ -14,14 +14,18 @@ use Rattle.wire.proofs.inbox.read_inbox.Statement.{statement}
 use Rattle.wire.proofs.inbox.read_inbox.Tie as tie
 
 abbrev Inv-loop : tie.InvT-loop
-Inv-loop n me inbox unreadable₀ at₀ sender₀ unreadable at sender = (sender ≤ n) × (at ≤ length inbox) × (at ≡ placeOf inbox sender) × (unreadable ≡ maskOf (unreadableFrom n me inbox) sender)
+Inv-loop n me inbox unreadable₀ at₀ sender₀ unreadable at sender = (sender ≤ n) × (at ≤ length inbox) × (at ≡ placeOf inbox sender) ×
+    (unreadable ≡ maskOf (unreadableFrom n me inbox) sender)
 
 abbrev μ-loop : tie.MeasureT-loop
 μ-loop n me inbox unreadable₀ at₀ sender₀ unreadable at sender = n - sender
 
 -- what the answer tells of the message at the place reached
 told : (c : tie.After-known-told Inv-loop μ-loop)
-    → let a = c .before .before .before .before .before .before .before .before .before .before .args in let l = c .before .before .before .before .before .loop in let p = c .before .start .given .0 in Told (now (a .inbox)) (l .at) (p .0) (p .1 .0)
+    → let a = c .before .before .before .before .before .before .before .before .before .before .args in
+    let l = c .before .before .before .before .before .loop in
+    let p = c .before .start .given .0 in
+    Told (now (a .inbox)) (l .at) (p .0) (p .1 .0)
 told c =
     let a = c .before .before .before .before .before .before .before .before .before .before .args in
     let l = c .before .before .before .before .before .loop in
@@ -73,14 +77,16 @@ part-sender-bit-end c = omega (arith, told c .end-is, told c .fits)
 
 sender-bit-requires : tie.Need-sender-bit-requires Inv-loop μ-loop
 sender-bit-requires c κs =
-    let nodes = sym (c .before .before .before .before .before .before .before .before .before .is-sized .ensures) ∙ not-false _ (c .before .before .before .before .before .before .before .before .if1 .left) in
+    let nodes = sym (c .before .before .before .before .before .before .before .before .before .is-sized .ensures) ∙ not-false _
+    (c .before .before .before .before .before .before .before .before .if1 .left) in
     (nodes, c .before .before .before .before .before .loop-test .taken)
 
 add-unreadable : tie.Need-add-unreadable Inv-loop μ-loop
 add-unreadable c =
     let a = c .before .before .before .before .before .before .before .before .before .before .before .before .args in
     let l = c .before .before .before .before .before .before .before .loop in
-    let nodes = sym (c .before .before .before .before .before .before .before .before .before .before .is-sized .ensures) ∙ not-false _ (c .before .before .before .before .before .before .before .before .before .if1 .left) in
+    let nodes = sym (c .before .before .before .before .before .before .before .before .before .before .is-sized .ensures) ∙ not-false _
+    (c .before .before .before .before .before .before .before .before .before .if1 .left) in
     let most = sized-most (a .n) nodes in
     let fit = still-fits (a .n) (a .me) (now (a .inbox)) (l .sender) (l .at) _ _ (l .unreadable) (c .sender-bit .result) (told (c .before .before)) (l .inv .2) (l .inv .3)
     (c .sender-bit .ensures) (omega arith) in

@@ -42,7 +42,8 @@ returns-2 : tie.Need-returns-2
 returns-2 c =
     let a = c .before .before .before .before .before .args in
     let r = subst (ReadMessage (a .n) (now (a .message))) (c .enum-told .given .1) (c .before .before .read-message .ensures) in
-    let t : isUnreadable (a .n) (a .me) (a .sender) (now (a .message)) ≡ false = simp (votes-told (a .n) (now (a .message)) (c .before .before .before .before .before .pre .0) _ r, and-false) in
+    let t : isUnreadable (a .n) (a .me) (a .sender) (now (a .message)) ≡ false = simp
+    (votes-told (a .n) (now (a .message)) (c .before .before .before .before .before .pre .0) _ r, and-false) in
     bit-none _ (a .sender) t
 
 returns-3 : tie.Need-returns-3
