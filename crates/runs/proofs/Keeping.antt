@@ -1,25 +1,25 @@
--- A schedule is a run that demand 3 grants where its sizes hold, its trays are sound, its messages are bytes and short, and its lines keep the rule on shown
--- votes: a message to a correct node is that of a line, or silence. All of it is tested, so that it can be computed.
+-- A schedule is a run that demand 3 grants where its sizes hold, its trays are sound, its messages are bytes, and its lines keep the rule on shown votes: a
+-- message to a correct node is that of a line, or silence. All of it is tested, so that it can be computed.
 use Prim.Native.Nat.{ℕ, zero, suc, _*_, _^_, _<_}
 use mathlib.Core.Path.{_≡_, refl, ap, _∙_}
 use mathlib.Core.Bool.{Bool, true, false, not, _&&_}
 use mathlib.Core.List.{List, [], _∷_, map}
 use native.Mathlib.Omega.{arith}
 use borrow.Author.Tests.{leb-true, leb-false, ltb-true, eqb-true, not-true}
-use lib.Dec.{eqb, ltb, leb}
-use lib.ListN.{length, getD}
+use lib.Dec.{eqb, ltb, leb, lit<}
+use lib.ListN.{getD}
 use Rattle.laws.specs.Masks.{count, every}
 use Rattle.laws.specs.Members.{any, holds}
 use Rattle.laws.proofs.Tests.{both, neither}
 use Rattle.laws.proofs.Every.{every-each}
 use Rattle.rules.specs.Sizes.{sized, fits, isLog}
-use Rattle.wire.specs.Sizes.{lengthSize}
+use Rattle.entries.specs.Bytes.{AreBytes}
 use Rattle.tray.specs.Trays.{entriesOf, soundTray, trayOf}
 use Rattle.tray.specs.declared.Tray.{Tray}
 use Rattle.agreement.specs.Hall.{Hall}
 use Rattle.agreement.specs.Granted.{Granted}
 use Rattle.agreement.specs.Rule.{breaksRule}
-use Rattle.agreement.proofs.Carried.{Fine, silence-fine, silence-keeps, carried-granted}
+use Rattle.agreement.proofs.Carried.{silence-keeps, carried-granted}
 use Rattle.runs.specs.Schedule.{Send, Schedule, given, hallOf, breaks}
 
 -- none reaches m
@@ -33,28 +33,19 @@ below-at m (x ∷ xs) z h (suc i) = below-at m xs z (neither (leb m x) (any (λ 
 
 -- ---- the messages of the lines
 
--- bytes, and short enough for two length bytes
-abbrev fine : List ℕ → Bool
-fine m = below (2 ^ 8) m && ltb (length m) (2 ^ (8 * lengthSize))
+abbrev allBytes : List Send → Bool
+allBytes [] = true
+allBytes (x ∷ xs) = below (2 ^ 8) (x .message) && allBytes xs
 
-is-fine : (m : List ℕ) → fine m ≡ true → Fine m
-is-fine m h =
-    let p = both (below (2 ^ 8) m) (ltb (length m) (2 ^ (8 * lengthSize))) h in
-    record { short = ltb-true (length m) (2 ^ (8 * lengthSize)) (p .1); bytes = below-at (2 ^ 8) m (omega arith) (not-true _ (p .0)) }
-
-abbrev allFine : List Send → Bool
-allFine [] = true
-allFine (x ∷ xs) = fine (x .message) && allFine xs
-
-given-fine : (lines : List Send) → allFine lines ≡ true → (r j i : ℕ) → Fine (given lines r j i)
-given-fine [] h r j i = silence-fine
-given-fine (x ∷ xs) h r j i = go (eqb r (x .round) && (eqb j (x .from) && eqb i (x .to))) refl (given-fine xs (p .1) r j i)
+given-bytes : (lines : List Send) → allBytes lines ≡ true → (r j i : ℕ) → AreBytes (given lines r j i)
+given-bytes [] h r j i = λ k. lit< tt
+given-bytes (x ∷ xs) h r j i = go (eqb r (x .round) && (eqb j (x .from) && eqb i (x .to))) refl (given-bytes xs (p .1) r j i)
   where
-    p : (fine (x .message) ≡ true) × (allFine xs ≡ true)
-    p = both (fine (x .message)) (allFine xs) h
+    p : (below (2 ^ 8) (x .message) ≡ true) × (allBytes xs ≡ true)
+    p = both (below (2 ^ 8) (x .message)) (allBytes xs) h
 
-    go : (b : Bool) → (eqb r (x .round) && (eqb j (x .from) && eqb i (x .to))) ≡ b → Fine (given xs r j i) → Fine (given (x ∷ xs) r j i)
-    go true e more = rw e (is-fine (x .message) (p .0))
+    go : (b : Bool) → (eqb r (x .round) && (eqb j (x .from) && eqb i (x .to))) ≡ b → AreBytes (given xs r j i) → AreBytes (given (x ∷ xs) r j i)
+    go true e more = rw e (below-at (2 ^ 8) (x .message) (omega arith) (not-true _ (p .0)))
     go false e more = rw e more
 
 -- ---- the rule on shown votes
@@ -96,7 +87,7 @@ module _ (s : Schedule) where
     pub few : leb (count faulty (s .n)) (s .f) ≡ true
     pub trays : every (λ i. soundTray (tray i)) (s .n) ≡ true
     pub entries : every (λ i. below (2 ^ 64) (entriesOf (tray i))) (s .n) ≡ true
-    pub messages : allFine (s .sends) ≡ true
+    pub messages : allBytes (s .sends) ≡ true
     pub rule : none (breaks s) ≡ true
 
   pub schedule-granted : Tested → Granted (hallOf s)
@@ -109,7 +100,7 @@ module _ (s : Schedule) where
         trays = λ i c. every-each (λ j. soundTray (tray j)) (s .n) (t .trays) i (c .node);
         entries = λ i c.
             below-at (2 ^ 64) (entriesOf (tray i)) (omega arith) (not-true _ (every-each (λ j. below (2 ^ 64) (entriesOf (tray j))) (s .n) (t .entries) i (c .node)));
-        messages = λ i j r c d b. given-fine (s .sends) (t .messages) r j i;
+        messages = λ i j r c d b. given-bytes (s .sends) (t .messages) r j i;
       })
       (leb-true _ _ (t .few))
       refl
