@@ -1,74 +1,93 @@
 -- Each run is what the definitions compute to.
 use mathlib.Core.Path.{refl}
-use lib.Count.{ones}
-use Rattle.laws.specs.Masks.{count, maskOf, every}
-use Rattle.rules.specs.Sizes.{sized, sizes, isBatch, fits, isLog}
-use Rattle.rules.specs.Vote.{shows, opened, accepted, passedOn}
-use Rattle.rules.specs.Step.{gather, takenUp, keeps, newly, passesOn}
-use Rattle.rules.specs.Log.{decision, decisions}
-use Rattle.rules.specs.Signers.{signer, signersOf, enough}
-use Rattle.entries.specs.Bytes.{entryOf, entryBytes, entriesOf, entriesBytes}
-use Rattle.wire.specs.Record.{unreadable, recordBytes}
-use Rattle.wire.specs.Message.{votesAfter, votesOf, messageBytes}
-use Rattle.wire.specs.Inbox.{placeOf, messageOf, wellCut, inboxBytes}
-use Rattle.tray.specs.Trays.{soundTray}
-use Rattle.node.specs.Batches.{soundBatch, soundKept}
-use Rattle.node.specs.State.{keptRight, soundNode}
-use Rattle.node.specs.Opening.{openNumber}
-use Rattle.step.specs.Step.{stepNumber}
-use Rattle.step.specs.Course.{after, outbox}
-use Rattle.closing.specs.Close.{closeNumber}
-use Rattle.signing.specs.Slots.{slotIn}
-use Rattle.signing.specs.Count.{signersNumber}
-use Rattle.agreement.specs.Carried.{handed}
-use Rattle.agreement.specs.Rule.{hasSent, breaksRule}
+use mathlib.Core.List.{[], _∷_}
+use Rattle.rules.specs.Sizes.{logMost}
+use Rattle.wire.specs.Sizes.{messageMost}
+use Rattle.runs.specs.Premises.{nodes, few, above, trays, well-formed, opening-room, step-room, closing-room, cut, whole, unforged}
+use Rattle.runs.specs.Outcomes.{Makes}
+use Rattle.runs.specs.Schedule.{hallOf}
 use Rattle.runs.specs.Document.{schedule, ScheduleRuns}
-use Rattle.runs.specs.Shown.{shown, ShownRuns}
-use Rattle.runs.specs.Forged.{ForgedRuns}
-use Rattle.runs.specs.NextRound.{NextRoundRuns}
-use Rattle.runs.specs.NotWhole.{inbox, NotWholeRuns}
-use Rattle.runs.specs.HalfFaulty.{HalfFaultyRuns}
-use Rattle.runs.specs.TooMany.{TooManyRuns}
-use Rattle.runs.specs.Alone.{AloneRuns}
-use Rattle.runs.proofs.Keeping.{schedule-granted}
+use Rattle.runs.specs.Shown.{ShownRuns, hall as shown-hall}
+use Rattle.runs.specs.Forged.{forged, ForgedRuns}
+use Rattle.runs.specs.NextRound.{NextRoundRuns, hall as next-round-hall}
+use Rattle.runs.specs.NotWhole.{notWhole, NotWholeRuns}
+use Rattle.runs.specs.NoRoom.{noRoom, NoRoomRuns}
+use Rattle.runs.specs.HalfFaulty.{halfFaulty, HalfFaultyRuns}
+use Rattle.runs.specs.TooMany.{tooMany, TooManyRuns}
+use Rattle.runs.specs.Alone.{hall as alone, own, unsound, silence, AloneRuns}
+use Rattle.runs.proofs.Computing.{computing}
+use Rattle.runs.proofs.Deciding.{tested-granted}
+use Rattle.runs.proofs.Failing.{parted, refused}
 
-pub computed : ScheduleRuns × ShownRuns × ForgedRuns × NextRoundRuns × NotWholeRuns × HalfFaultyRuns × TooManyRuns × AloneRuns
-unfolding inbox sizes sized isBatch fits isLog every gather shows opened accepted passedOn takenUp keeps newly passesOn decision decisions ones entryOf entryBytes entriesOf entriesBytes unreadable recordBytes votesAfter votesOf messageBytes placeOf messageOf wellCut inboxBytes soundTray soundBatch soundKept keptRight soundNode openNumber stepNumber after outbox closeNumber handed hasSent breaksRule count maskOf signer signersOf enough slotIn signersNumber
-computed = (
-  record { bytes = refl; node1 = record { makes = refl; its = refl }; node2 = record { makes = refl; its = refl }; rule = refl; granted = schedule-granted schedule (record { nodes = refl; above = refl; few = refl; trays = refl; entries = refl; messages = refl; rule = refl }) },
-  record {
-    before = refl;
-    not-before = refl;
-    that-round = refl;
-    rule = refl;
-    granted = schedule-granted shown (record { nodes = refl; above = refl; few = refl; trays = refl; entries = refl; messages = refl; rule = refl });
-    kept2 = refl;
-    kept3 = refl;
-    kept4 = refl;
-    node2 = record { makes = refl; its = refl };
-    node3 = record { makes = refl; its = refl };
-    node4 = record { makes = refl; its = refl };
-  },
-  record { rule = refl; node1 = record { makes = refl; its = refl }; node2 = record { makes = refl; its = refl } },
-  record {
-    rule = refl;
-    not-yet = refl;
-    next = refl;
-    node1 = record { makes = refl; its = refl };
-    node2 = record { makes = refl; its = refl };
-    node3 = record { makes = refl; its = refl };
-    node4 = record { makes = refl; its = refl };
-  },
-  record {
-    sent = refl;
-    lost = refl;
-    whole1 = record { sent = refl; arrives = refl };
-    whole2 = record { sent = refl; arrives = refl };
-    whole3 = record { sent = refl; arrives = refl };
-    node1 = record { makes = refl; its = refl };
-    node2 = record { makes = refl; its = refl };
-  },
-  record { alone = refl; one = refl; too-few = refl; refused = refl },
-  record { rule = refl; node1 = record { makes = refl; its = refl }; node2 = record { makes = refl; its = refl } },
-  record { makes = record { makes = refl; its = refl }; nodes = refl; trays = refl; well-formed = refl; room = refl; output = refl; cut = refl },
-)
+pub schedule-runs : ScheduleRuns
+unfolding computing
+schedule-runs = record { bytes = refl; node1 = record { makes = refl; its = refl }; node2 = record { makes = refl; its = refl }; rule = refl; granted = tested-granted (hallOf schedule) refl }
+
+pub shown-runs : ShownRuns
+unfolding computing
+shown-runs = record {
+  before = refl;
+  not-before = refl;
+  that-round = refl;
+  rule = refl;
+  granted = tested-granted shown-hall refl;
+  kept2 = refl;
+  kept3 = refl;
+  kept4 = refl;
+  node2 = record { makes = refl; its = refl };
+  node3 = record { makes = refl; its = refl };
+  node4 = record { makes = refl; its = refl };
+}
+
+pub forged-runs : ForgedRuns
+unfolding computing
+forged-runs = record { rule = refl; node1 = record { makes = refl; its = refl }; node2 = record { makes = refl; its = refl }; needed = parted (hallOf forged) unforged 1 2 refl refl refl refl refl }
+
+pub next-round-runs : NextRoundRuns
+unfolding computing
+next-round-runs = record {
+  rule = refl;
+  not-yet = refl;
+  next = refl;
+  node1 = record { makes = refl; its = refl };
+  node2 = record { makes = refl; its = refl };
+  node3 = record { makes = refl; its = refl };
+  node4 = record { makes = refl; its = refl };
+  needed = parted next-round-hall unforged 1 2 refl refl refl refl refl;
+}
+
+pub not-whole-runs : NotWholeRuns
+unfolding computing
+not-whole-runs = record { sent = refl; lost = refl; node1 = record { makes = refl; its = refl }; node2 = record { makes = refl; its = refl }; needed = parted notWhole whole 1 2 refl refl refl refl refl }
+
+pub no-room-runs : NoRoomRuns
+unfolding computing
+no-room-runs = record { twelve = refl; sent = refl; node1 = refl; node2 = record { makes = refl; its = refl }; needed = refused noRoom step-room 1 refl refl refl }
+
+pub half-faulty-runs : HalfFaultyRuns
+unfolding computing
+half-faulty-runs = record {
+  not-made = refl;
+  node1 = refl;
+  needed = refused (hallOf halfFaulty) above 1 refl refl refl;
+  refused = refl;
+  alone = refl;
+  one = refl;
+  too-few = refl;
+}
+
+pub too-many-runs : TooManyRuns
+unfolding computing
+too-many-runs = record { rule = refl; node1 = record { makes = refl; its = refl }; node2 = record { makes = refl; its = refl }; needed = parted (hallOf tooMany) few 1 2 refl refl refl refl refl }
+
+pub alone-runs : AloneRuns
+unfolding computing
+alone-runs = record {
+  makes = record { makes = refl; its = refl };
+  seventeen = record { answer = refl; needed = refused (alone 17 own (silence 17) messageMost [] logMost) nodes 0 refl refl refl };
+  no-tray = record { answer = refl; needed = refused (alone 1 unsound (silence 1) messageMost [] logMost) trays 0 refl refl refl };
+  no-log = record { answer = refl; needed = refused (alone 1 own (silence 1) messageMost (2 ∷ 1 ∷ []) logMost) well-formed 0 refl refl refl };
+  no-outbox = record { answer = refl; needed = refused (alone 1 own (silence 1) 11 [] logMost) opening-room 0 refl refl refl };
+  no-output = record { answer = refl; needed = refused (alone 1 own (silence 1) messageMost [] 0) closing-room 0 refl refl refl };
+  ill-cut = record { answer = refl; needed = refused (alone 1 own (0 ∷ []) messageMost [] logMost) cut 0 refl refl refl };
+}

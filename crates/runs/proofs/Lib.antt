@@ -1,2 +1,4 @@
-pub mod Keeping
+pub mod Deciding
+pub mod Failing
+pub mod Computing
 pub mod Computed

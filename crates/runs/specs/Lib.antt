@@ -1,9 +1,13 @@
+pub mod Premises
+pub mod Outcomes
 pub mod Schedule
 pub mod Document
 pub mod Shown
 pub mod Forged
 pub mod NextRound
+pub mod Handed
 pub mod NotWhole
+pub mod NoRoom
 pub mod HalfFaulty
 pub mod TooMany
 pub mod Alone

@@ -8,7 +8,9 @@ use Rattle.rules.specs.Vote.{Batch}
 use Rattle.entries.specs.Fields.{entry}
 use Rattle.agreement.specs.Hall.{Hall}
 use Rattle.agreement.specs.Rule.{hasSent}
-use Rattle.runs.specs.Schedule.{vote, sending, Schedule, hallOf, breaks, Makes}
+use Rattle.runs.specs.Premises.{unforged}
+use Rattle.runs.specs.Outcomes.{Needed, Makes}
+use Rattle.runs.specs.Schedule.{vote, sending, Schedule, hallOf, breaks}
 
 -- a batch of primary 0
 abbrev pub batch : Batch
@@ -43,3 +45,4 @@ pub record NextRoundRuns : Type 0 where
   pub node2 : Makes hall 2 withIt
   pub node3 : Makes hall 3 withoutIt
   pub node4 : Makes hall 4 withoutIt
+  pub needed : Needed unforged hall

@@ -6,6 +6,7 @@ ghost use Rattle.runs.specs.Shown.{ShownRuns};
 ghost use Rattle.runs.specs.Forged.{ForgedRuns};
 ghost use Rattle.runs.specs.NextRound.{NextRoundRuns};
 ghost use Rattle.runs.specs.NotWhole.{NotWholeRuns};
+ghost use Rattle.runs.specs.NoRoom.{NoRoomRuns};
 ghost use Rattle.runs.specs.HalfFaulty.{HalfFaultyRuns};
 ghost use Rattle.runs.specs.TooMany.{TooManyRuns};
 ghost use Rattle.runs.specs.Alone.{AloneRuns};
@@ -21,7 +22,7 @@ pub fn premises_can_be_met() -> bool
 // One forged vote, or one vote that its node sends in the next round, or one lost message between correct nodes, or one faulty node more than f: two
 // different logs. Half of the nodes faulty: too few signers. A node alone without room, or a sound tray, or a well-formed old log, or a well-cut inbox: no log.
 pub fn premises_are_needed() -> bool
-    ensures { λ r. ⌜ (r ≡ true) × ForgedRuns × NextRoundRuns × NotWholeRuns × HalfFaultyRuns × TooManyRuns × AloneRuns ⌝ }
+    ensures { λ r. ⌜ (r ≡ true) × ForgedRuns × NextRoundRuns × NotWholeRuns × NoRoomRuns × HalfFaultyRuns × TooManyRuns × AloneRuns ⌝ }
 {
     true
 }
