@@ -66,7 +66,7 @@ module _ (hall : Hall) (G : Granted hall) where
 
     counting : (k : ℕ) (m : Mark) (slots : List ℕ) → Counting hall mark k m slots → CountingOver (overVotes hall) mark k m (slotOf slots)
     counting k m slots c = record {
-      signs = λ j x cj e. marked j x (back cj) (c .signs j x (back cj) e);
+      signs = λ j x cj ne e. marked j x (back cj) (c .signs j x (back cj) ne e);
       counts = λ ck. marked k m (back ck) (c .counts (back ck));
     }
 

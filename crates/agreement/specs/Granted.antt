@@ -130,8 +130,8 @@ pub record Marked (hall : Hall) (mark : ℕ → Mark) (j : ℕ) (m : Mark) : Typ
 
 -- node k, correct or faulty, counts the signers of m in these slots
 pub record Counting (hall : Hall) (mark : ℕ → Mark) (k : ℕ) (m : Mark) (slots : List ℕ) : Type 0 where
-  -- "each correct node that made a log signs that log's mark and no other", "a correct node without a log signs .. none"
-  pub signs : (j : ℕ) (x : Mark) → Correct hall j → slotOf slots j ≡ some x → Marked hall mark j x
+  -- "each correct node that made a log signs that log's mark and no other", "a correct node without a log signs .. none"; the counter's own slot is not read
+  pub signs : (j : ℕ) (x : Mark) → Correct hall j → j ≢ k → slotOf slots j ≡ some x → Marked hall mark j x
   -- ".. and counts none": one with a log counts that log's mark
   pub counts : Correct hall k → Marked hall mark k m
 

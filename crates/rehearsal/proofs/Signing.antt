@@ -44,7 +44,7 @@ module _ (s : List ℕ) (n f : ℕ) (good : formOf s ≡ Good n f) (kept : breac
 
   counting : (k : ℕ) → Correct hall k → Counting hall (marks s n f) k (marks s n f k) (slots s n f)
   counting k ck = record {
-    signs = λ j x cj e. record { makes = makes s n f good kept j cj; its = some-is (sym (says j cj) ∙ e) };
+    signs = λ j x cj ne e. record { makes = makes s n f good kept j cj; its = some-is (sym (says j cj) ∙ e) };
     counts = λ c. record { makes = makes s n f good kept k c; its = λ i. marks s n f k };
   }
 
