@@ -128,18 +128,34 @@ pub record Marked (hall : Hall) (mark : ℕ → Mark) (j : ℕ) (m : Mark) : Typ
   pub makes : closes hall j ≡ done
   pub its : m ≡ mark j
 
+-- n slots of 33 bytes; slots i: what node i is handed
+abbrev pub SlotsCut : (hall : Hall) (slots : ℕ → List ℕ) → Type 0
+SlotsCut hall slots = (i : ℕ) → Correct hall i → areSlots (hall .n) (slots i) ≡ true
+
+-- mark j: the mark of node j's log, where it made one
+module _ (hall : Hall) (mark : ℕ → Mark) where
+  -- "Where equal logs get equal marks"
+  abbrev pub Alike : Type 0
+  Alike = (i j : ℕ) → Correct hall i → Correct hall j → closes hall i ≡ done → closes hall j ≡ done → logOf hall i ≡ logOf hall j → mark i ≡ mark j
+
+  -- "and its speaking slot reaches every correct node"
+  abbrev pub Reaches : (slots : ℕ → List ℕ) → Type 0
+  Reaches slots = (i j : ℕ) → Correct hall i → Correct hall j → i ≢ j → closes hall j ≡ done → slotOf (slots i) j ≡ some (mark j)
+
+  -- "each correct node that made a log signs that log's mark and no other", "a correct node without a log signs .. none"; the counter's own slot is not read
+  abbrev pub Signs : (k : ℕ) (slots : List ℕ) → Type 0
+  Signs k slots = (j : ℕ) (x : Mark) → Correct hall j → j ≢ k → slotOf slots j ≡ some x → Marked hall mark j x
+
+  -- ".. and counts none": one with a log counts that log's mark
+  abbrev pub Counts : (k : ℕ) (m : Mark) → Type 0
+  Counts k m = Correct hall k → Marked hall mark k m
+
+pub record Signing (hall : Hall) (mark : ℕ → Mark) (slots : ℕ → List ℕ) : Type 0 where
+  pub cut : SlotsCut hall slots
+  pub alike : Alike hall mark
+  pub reaches : Reaches hall mark slots
+
 -- node k, correct or faulty, counts the signers of m in these slots
 pub record Counting (hall : Hall) (mark : ℕ → Mark) (k : ℕ) (m : Mark) (slots : List ℕ) : Type 0 where
-  -- "each correct node that made a log signs that log's mark and no other", "a correct node without a log signs .. none"; the counter's own slot is not read
-  pub signs : (j : ℕ) (x : Mark) → Correct hall j → j ≢ k → slotOf slots j ≡ some x → Marked hall mark j x
-  -- ".. and counts none": one with a log counts that log's mark
-  pub counts : Correct hall k → Marked hall mark k m
-
--- mark j: the mark of node j's log, where it made one; slots i: what node i is handed
-pub record Signing (hall : Hall) (mark : ℕ → Mark) (slots : ℕ → List ℕ) : Type 0 where
-  -- n slots of 33 bytes
-  pub cut : (i : ℕ) → Correct hall i → areSlots (hall .n) (slots i) ≡ true
-  -- "Where equal logs get equal marks"
-  pub alike : (i j : ℕ) → Correct hall i → Correct hall j → closes hall i ≡ done → closes hall j ≡ done → logOf hall i ≡ logOf hall j → mark i ≡ mark j
-  -- "and its speaking slot reaches every correct node"
-  pub reaches : (i j : ℕ) → Correct hall i → Correct hall j → i ≢ j → closes hall j ≡ done → slotOf (slots i) j ≡ some (mark j)
+  pub signs : Signs hall mark k slots
+  pub counts : Counts hall mark k m

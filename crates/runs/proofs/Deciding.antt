@@ -11,7 +11,7 @@ use lib.Dec.{eqb, ltb, leb}
 use lib.ListN.{length, getD}
 use Rattle.laws.specs.Masks.{count, every}
 use Rattle.laws.specs.Members.{any, same}
-use Rattle.laws.proofs.Tests.{clash, neither, other}
+use Rattle.laws.proofs.Tests.{both, neither, other}
 use Rattle.laws.proofs.Every.{every-each}
 use Rattle.laws.proofs.Members.{same-eq}
 use Rattle.rules.specs.Sizes.{sized, fits, isLog}
@@ -58,7 +58,13 @@ place unforged = (12, omega arith, refl)
 module _ (hall : Hall) where
   -- ---- the tests
 
-  abbrev eachCorrect : (ℕ → Bool) → Bool
+  abbrev pub correct : ℕ → Bool
+  correct i = ltb i (hall .n) && not (hall .faulty i)
+
+  pub is-correct : (i : ℕ) → correct i ≡ true → Correct hall i
+  is-correct i h = let t = both (ltb i (hall .n)) (not (hall .faulty i)) h in record { node = ltb-true i (hall .n) (t .0); fine = not-true _ (t .1) }
+
+  abbrev pub eachCorrect : (ℕ → Bool) → Bool
   eachCorrect t = every (λ i. hall .faulty i || t i) (hall .n)
 
   abbrev eachRound : (ℕ → Bool) → Bool
@@ -95,7 +101,7 @@ module _ (hall : Hall) where
 
   -- ---- what they tell
 
-  at-correct : (t : ℕ → Bool) → eachCorrect t ≡ true → (i : ℕ) → Correct hall i → t i ≡ true
+  pub at-correct : (t : ℕ → Bool) → eachCorrect t ≡ true → (i : ℕ) → Correct hall i → t i ≡ true
   at-correct t h i ci = other (hall .faulty i) (t i) (every-each (λ j. hall .faulty j || t j) (hall .n) h i (ci .node)) (ci .fine)
 
   at-round : (t : ℕ → Bool) → eachRound t ≡ true → (r : ℕ) → Round hall r → t r ≡ true
