@@ -5,7 +5,7 @@ use native.Mathlib.Omega.{arith}
 use Rattle.laws.proofs.Tests.{clash}
 use Rattle.laws.proofs.Count.{count-none}
 use Rattle.agreement.specs.AllCorrect.{noneFaulty, AllCorrectGranted}
-use Rattle.agreement.proofs.Carried.{silence-fine, carried-granted}
+use Rattle.agreement.proofs.Carried.{carried-granted}
 
 pub all-correct : AllCorrectGranted
 all-correct n f nodes above tray sound entries old well-formed =
@@ -15,6 +15,6 @@ all-correct n f nodes above tray sound entries old well-formed =
       above = above;
       trays = λ i ci. sound i (ci .node);
       entries = λ i ci. entries i (ci .node);
-      messages = λ i j r ci fj b. silence-fine;
+      messages = λ i j r ci fj b. absurd (clash (fj .lies) refl);
     })
     (omega (arith, count-none n)) well-formed (λ i j r ci fj b. absurd (clash (fj .lies) refl))

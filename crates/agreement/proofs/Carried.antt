@@ -1,5 +1,5 @@
--- A run that is carried whole keeps what demand 3 grants, where what the faulty nodes send is bytes, short enough for its two length bytes, and keeps the rule
--- on shown votes: each inbox is put together from the messages, so it is well cut and gives each message back.
+-- A run that is carried whole keeps what demand 3 grants, where what the faulty nodes send is bytes and keeps the rule on shown votes: each inbox is put together
+-- from messages that fit their two length bytes, so it is well cut and gives each message back.
 use Prim.Native.Nat.{ℕ, zero, suc, _*_, _^_, _≤_, _<_}
 use mathlib.Core.Path.{_≡_, refl, sym, ap, subst, _∙_}
 use mathlib.Core.Logic.{_≢_, ⊎-elim}
@@ -35,22 +35,40 @@ use Rattle.step.proofs.PassedVotes.{within-message}
 use Rattle.agreement.specs.Hall.{Hall, nodeAfter, sends}
 use Rattle.agreement.specs.Granted.{Round, Correct, Faulty, Room, Granted}
 use Rattle.agreement.specs.Rule.{breaksRule}
-use Rattle.agreement.specs.Carried.{message, carried, roomy, handed, carriedHall}
+use Rattle.agreement.specs.Carried.{tooLong, arriving, message, carried, roomy, handed, carriedHall}
 use Rattle.agreement.proofs.Follows.{Unhindered}
 use Rattle.agreement.proofs.Shown.{rule-kept}
 
 -- a message is bytes, and not too long for its two length bytes
-pub record Fine (m : List ℕ) : Type 0 where
+record Fine (m : List ℕ) : Type 0 where
   pub short : length m < 2 ^ (8 * lengthSize)
   pub bytes : AreBytes m
 
 -- silence is, and shows nothing
-pub silence-fine : Fine []
+silence-fine : Fine []
 silence-fine = record { short = omega arith; bytes = λ k. lit< tt }
 
 pub silence-keeps : (hall : Hall) (r : ℕ) → breaksRule hall r [] ≡ false
 unfolding breaksRule votesOf votesAfter
 silence-keeps hall r = refl
+
+-- what arrives of any bytes is fine, and shows what was given or nothing; a short message arrives as it was given
+arriving-fine : (m : List ℕ) → AreBytes m → Fine (arriving m)
+arriving-fine m bytes = go (tooLong m) refl
+  where
+    go : (b : Bool) → tooLong m ≡ b → Fine (cond b [] m)
+    go true e = silence-fine
+    go false e = record { short = omega (arith, leb-false); bytes = bytes }
+
+arriving-keeps : (hall : Hall) (r : ℕ) (m : List ℕ) → breaksRule hall r m ≡ false → breaksRule hall r (arriving m) ≡ false
+arriving-keeps hall r m h = go (tooLong m)
+  where
+    go : (b : Bool) → breaksRule hall r (cond b [] m) ≡ false
+    go true = silence-keeps hall r
+    go false = h
+
+pub arrives-whole : (m : List ℕ) → length m < 2 ^ (8 * lengthSize) → arriving m ≡ m
+arrives-whole m l = simp (lt-leb (2 ^ (8 * lengthSize)) (length m) l)
 
 module _ (n f : ℕ) (faulty : ℕ → Bool) (tray : ℕ → Tray) (given : ℕ → ℕ → ℕ → List ℕ) (old : List ℕ) where
   abbrev hall : Hall
@@ -81,7 +99,7 @@ module _ (n f : ℕ) (faulty : ℕ → Bool) (tray : ℕ → Tray) (given : ℕ 
   inbox-is i r =
       ap (λ (b : Bool). cond b (played r i (suc r)) (carried n faulty given (suc r) i (λ (j : ℕ). outbox n f j (tray j) (played r j) roomy (suc r))))
       (lt-leb (suc r) r (le-refl (suc r)))
-      ∙ ap inboxBytes (gather-same _ _ n (λ j l. ap (λ (m : List ℕ). cond (eqb j i) [] (cond (faulty j) (given (suc r) j i) m) ∷ []) (sent-same j)))
+      ∙ ap inboxBytes (gather-same _ _ n (λ j l. ap (λ (m : List ℕ). cond (eqb j i) [] (cond (faulty j) (arriving (given (suc r) j i)) m) ∷ []) (sent-same j)))
     where
       sent-same : (j : ℕ) → outbox n f j (tray j) (played r j) roomy (suc r) ≡ sends hall j (suc r)
       sent-same j = outbox-same n f j (tray j) (played r j) (λ q. played q j q) roomy r (played-stays r j)
@@ -93,7 +111,7 @@ module _ (n f : ℕ) (faulty : ℕ → Bool) (tray : ℕ → Tray) (given : ℕ 
     pub above : 2 * f < n
     pub trays : (i : ℕ) → Correct hall i → soundTray (tray i) ≡ true
     pub entries : (i : ℕ) → Correct hall i → AreEntries (entriesOf (tray i))
-    pub messages : (i j r : ℕ) → Correct hall i → Faulty hall j → Round hall r → Fine (given r j i)
+    pub messages : (i j r : ℕ) → Correct hall i → Faulty hall j → Round hall r → AreBytes (given r j i)
 
   module _ (H : Given) where
     sizes-hold : (i : ℕ) → i < n → sizes n f i ≡ true
@@ -104,7 +122,7 @@ module _ (n f : ℕ) (faulty : ℕ → Bool) (tray : ℕ → Tray) (given : ℕ 
       where
         go : (own : Bool) → eqb j i ≡ own → (lies : Bool) → faulty j ≡ lies → Fine (messageTo i r j)
         go true e lies q = rw e silence-fine
-        go false e true q = rw (e, q) (H .messages i j r ci (record { node = l; lies = q }) b)
+        go false e true q = rw (e, q) (arriving-fine (given r j i) (H .messages i j r ci (record { node = l; lies = q }) b))
         go false e false q =
             let s = outbox-short n f j (tray j) (hall .inbox j) roomy (sizes-hold j l) r in
             rw (e, q) (record { short = omega arith; bytes = outbox-bytes n f j (tray j) (hall .inbox j) roomy (sizes-hold j l) r })
@@ -170,7 +188,7 @@ module _ (n f : ℕ) (faulty : ℕ → Bool) (tray : ℕ → Tray) (given : ℕ 
       whole i j zero ci cj ne b = absurd (omega (arith, b .first))
       whole i j (suc r) ci cj ne b = message-is i r ci b j (cj .node) ∙ simp (ne-eqb j i (λ e. ne (sym e)), cj .fine)
 
-      from-faulty : (i j r : ℕ) → Correct hall i → Faulty hall j → Round hall r → messageOf (hall .inbox i r) j ≡ given r j i
+      from-faulty : (i j r : ℕ) → Correct hall i → Faulty hall j → Round hall r → messageOf (hall .inbox i r) j ≡ arriving (given r j i)
       from-faulty i j zero ci fj b = absurd (omega (arith, b .first))
       from-faulty i j (suc r) ci fj b =
           message-is i r ci b j (fj .node) ∙ simp (ne-eqb j i (λ e. clash (fj .lies) (ap faulty e ∙ ci .fine)), fj .lies)
@@ -188,5 +206,6 @@ module _ (n f : ℕ) (faulty : ℕ → Bool) (tray : ℕ → Tray) (given : ℕ 
         bytes = λ i r ci b. unhindered i ci .bytes r b;
         whole = whole;
         unforged = λ i j r ci fj b votes e.
-            rule-kept hall r (given r j i) (keeps i j r ci fj b) votes (ap (votesOf n) (sym (from-faulty i j r ci fj b)) ∙ e);
+            rule-kept hall r (arriving (given r j i)) (arriving-keeps hall r (given r j i) (keeps i j r ci fj b)) votes
+            (ap (votesOf n) (sym (from-faulty i j r ci fj b)) ∙ e);
       }

@@ -1,12 +1,13 @@
--- A run that is carried whole: "Each outbox goes whole to every other node", "in a run the transport cuts every inbox well", and what the faulty nodes send
--- is given.
-use Prim.Native.Nat.{ℕ, zero, suc}
+-- A run that is carried whole: "Each outbox goes whole to every other node", "In a run the transport cuts every inbox well, and a message too long for its two
+-- length bytes comes as silence", and what the faulty nodes send is given.
+use Prim.Native.Nat.{ℕ, zero, suc, _*_, _^_}
 use mathlib.Core.Bool.{Bool, cond}
 use mathlib.Core.List.{List, [], _∷_}
 use lib.Dec.{eqb, leb}
+use lib.ListN.{length}
 use Rattle.rules.specs.Sizes.{logMost}
 use Rattle.rules.specs.Step.{gather}
-use Rattle.wire.specs.Sizes.{messageMost}
+use Rattle.wire.specs.Sizes.{messageMost, lengthSize}
 use Rattle.wire.specs.Inbox.{inboxBytes}
 use Rattle.tray.specs.declared.Tray.{Tray}
 use Rattle.step.specs.Course.{outbox}
@@ -16,11 +17,19 @@ use Rattle.agreement.specs.Hall.{Hall}
 abbrev pub roomy : ℕ → ℕ
 roomy r = messageMost
 
+-- "too long for its two length bytes": 65,536 bytes or more
+abbrev pub tooLong : List ℕ → Bool
+tooLong m = leb (2 ^ (8 * lengthSize)) (length m)
+
+-- what arrives of a message that a faulty node gives; what a correct node sends is never too long
+abbrev pub arriving : List ℕ → List ℕ
+arriving m = cond (tooLong m) [] m
+
 -- given r j i: the message of faulty node j to node i in round r
 module _ (n : ℕ) (faulty : ℕ → Bool) (given : ℕ → ℕ → ℕ → List ℕ) where
   -- the message of node j to node i in round r, of which node i's own is silence; sent j: what correct node j sends
   abbrev pub message : (r i : ℕ) (sent : ℕ → List ℕ) (j : ℕ) → List ℕ
-  message r i sent j = cond (eqb j i) [] (cond (faulty j) (given r j i) (sent j))
+  message r i sent j = cond (eqb j i) [] (cond (faulty j) (arriving (given r j i)) (sent j))
 
   -- the inbox of node i in round r
   abbrev pub carried : (r i : ℕ) (sent : ℕ → List ℕ) → List ℕ

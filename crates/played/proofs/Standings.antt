@@ -28,8 +28,9 @@ use Rattle.step.specs.Course.{after, outbox}
 use Rattle.step.proofs.Courses.{outbox-short}
 use Rattle.agreement.specs.Hall.{Hall, nodeAfter, sends}
 use Rattle.agreement.specs.Granted.{Correct}
+use Rattle.agreement.specs.Carried.{arriving, message}
 use Rattle.agreement.proofs.Follows.{Unhindered}
-use Rattle.agreement.proofs.Carried.{Given, inbox-is, unhindered}
+use Rattle.agreement.proofs.Carried.{Given, arrives-whole, inbox-is, unhindered}
 use Rattle.entries.specs.Bytes.{AreEntries}
 use Rattle.schedule.specs.Forms.{formOf}
 use Rattle.schedule.specs.declared.Form.the-variants.{Good}
@@ -103,7 +104,7 @@ module _ (s : List ℕ) (n f : ℕ) (form : formOf s ≡ Good n f) where
     above = nodes-above;
     trays = λ i ci. of-is-sound (entriesOfTray s i) (tray-batch s i);
     entries = λ i ci. subst AreEntries (sym (of-entries (entriesOfTray s i))) (tray-entries s i);
-    messages = λ i j r ci fj b. record { short = omega (arith, message-size s n f r j i form); bytes = message-bytes s r j i };
+    messages = λ i j r ci fj b. message-bytes s r j i;
   }
 
   pub goes-on : (i : ℕ) → Correct hall i → Unhindered hall i
@@ -142,16 +143,22 @@ module _ (s : List ℕ) (n f : ℕ) (form : formOf s ≡ Good n f) where
     -- ---- the inbox
 
     module _ (i q : ℕ) (round : here .next ≡ suc q) where
-      same-message : (j : ℕ) → j < n
-          → messageTo s faulty (here .next) i j (outboxAt (here .outboxes) j) ≡ cond (eqb j i) [] (cond (isFaulty s j) (messageFor s (suc q) j i) (sends hall j (suc q)))
+      -- a schedule's message is short, so it arrives
+      arrives : (j : ℕ) → messageFor s (suc q) j i ≡ arriving (messageFor s (suc q) j i)
+      arrives j = sym (arrives-whole (messageFor s (suc q) j i) (omega (arith, message-size s n f (suc q) j i form)))
+
+      -- the message of node j, as the run carries it
+      abbrev comes : ℕ → List ℕ
+      comes j = message n (isFaulty s) (λ r k to. messageFor s r k to) (suc q) i (λ k. sends hall k (suc q)) j
+
+      same-message : (j : ℕ) → j < n → messageTo s faulty (here .next) i j (outboxAt (here .outboxes) j) ≡ comes j
       same-message j l = go (isFaulty s j) refl
         where
           most : j < nodesMost
           most = omega (arith, nodes-most, l)
 
-          go : (b : Bool) → isFaulty s j ≡ b
-              → messageTo s faulty (here .next) i j (outboxAt (here .outboxes) j) ≡ cond (eqb j i) [] (cond (isFaulty s j) (messageFor s (suc q) j i) (sends hall j (suc q)))
-          go true e = rw (bit-is j most ∙ e, e, round)
+          go : (b : Bool) → isFaulty s j ≡ b → messageTo s faulty (here .next) i j (outboxAt (here .outboxes) j) ≡ comes j
+          go true e = rw (bit-is j most ∙ e, e, round) (ap (λ (x : List ℕ). cond (eqb j i) [] x) (arrives j))
           go false e =
               let o : outboxAt (here .outboxes) j ≡ outboxOf (sends hall j (suc q)) =
               outbox-there hall here (suc q) (stands ∙ ap (standing hall) round) j most ∙ ap
@@ -159,7 +166,7 @@ module _ (s : List ℕ) (n f : ℕ) (form : formOf s ≡ Good n f) where
               let m : sentIn (outboxAt (here .outboxes) j) ≡ sends hall j (suc q) = ap sentIn o ∙ sent-back (sends hall j (suc q)) in
               ap (λ (b : Bool). cond (eqb j i) [] (cond b (messageFor s (here .next) j i) (sentIn (outboxAt (here .outboxes) j)))) (bit-is j most ∙ e)
               ∙ ap (λ (x : List ℕ). cond (eqb j i) [] x) m
-              ∙ sym (ap (λ (b : Bool). cond (eqb j i) [] (cond b (messageFor s (suc q) j i) (sends hall j (suc q)))) e)
+              ∙ sym (ap (λ (b : Bool). cond (eqb j i) [] (cond b (arriving (messageFor s (suc q) j i)) (sends hall j (suc q)))) e)
 
       pub inbox-here : inboxTo s n faulty (here .next) i (here .outboxes) ≡ hall .inbox i (suc q)
       inbox-here =
