@@ -1,17 +1,23 @@
 -- Runs that keep the premises: all of it is computed.
 use mathlib.Core.Path.{refl}
-use Rattle.runs.specs.Premises.{cut}
 use Rattle.runs.specs.Schedule.{hallOf}
 use Rattle.runs.specs.Document.{schedule, ScheduleRuns}
 use Rattle.runs.specs.Shown.{ShownRuns, hall as shown-hall}
+use Rattle.runs.specs.TooLong.{tooLong, TooLongRuns}
 use Rattle.runs.specs.Counted.{hall as signed-hall, made, strange, mark, slots, CountedRuns}
 use Rattle.runs.proofs.Computing.{computing}
 use Rattle.runs.proofs.Deciding.{tested-granted}
-use Rattle.runs.proofs.Signing.{cut-by, alike-by, reaches-by, signs-by, counts-by}
+use Rattle.runs.proofs.Signing.{signing-by, counting-by}
 
 pub schedule-runs : ScheduleRuns
 unfolding computing
-schedule-runs = record { bytes = refl; node1 = record { makes = refl; its = refl }; node2 = record { makes = refl; its = refl }; rule = refl; granted = tested-granted (hallOf schedule) refl }
+schedule-runs = record {
+  bytes = refl;
+  node1 = record { makes = refl; its = refl };
+  node2 = record { makes = refl; its = refl };
+  rule = refl;
+  granted = tested-granted (hallOf schedule) refl;
+}
 
 pub shown-runs : ShownRuns
 unfolding computing
@@ -29,13 +35,22 @@ shown-runs = record {
   node4 = record { makes = refl; its = refl };
 }
 
+pub too-long-runs : TooLongRuns
+unfolding computing
+too-long-runs = record {
+  silence = refl;
+  node1 = record { makes = refl; its = refl };
+  node2 = record { makes = refl; its = refl };
+  granted = tested-granted (hallOf tooLong) refl;
+}
+
 pub counted-runs : CountedRuns
 unfolding computing
 counted-runs = record {
   granted = schedule-runs .granted;
-  signing = record { cut = cut-by signed-hall slots refl; alike = alike-by signed-hall mark refl; reaches = reaches-by signed-hall mark slots refl };
-  node1 = record { counting = record { signs = signs-by signed-hall mark 1 (slots 1) refl; counts = counts-by signed-hall mark 1 made refl }; number = refl; mask = refl };
-  node2 = record { counting = record { signs = signs-by signed-hall mark 2 (slots 2) refl; counts = counts-by signed-hall mark 2 made refl }; number = refl; mask = refl };
-  alone0 = record { counting = record { signs = signs-by signed-hall mark 0 (slots 0) refl; counts = counts-by signed-hall mark 0 strange refl }; number = refl; mask = refl };
-  node0 = record { counting = record { signs = signs-by signed-hall mark 0 (slots 0) refl; counts = counts-by signed-hall mark 0 made refl }; number = refl; mask = refl };
+  signing = signing-by signed-hall mark slots refl refl refl;
+  node1 = record { counting = counting-by signed-hall mark 1 made (slots 1) refl refl; number = refl; mask = refl };
+  node2 = record { counting = counting-by signed-hall mark 2 made (slots 2) refl refl; number = refl; mask = refl };
+  alone0 = record { counting = counting-by signed-hall mark 0 strange (slots 0) refl refl; number = refl; mask = refl };
+  node0 = record { counting = counting-by signed-hall mark 0 made (slots 0) refl refl; number = refl; mask = refl };
 }

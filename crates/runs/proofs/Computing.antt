@@ -25,5 +25,8 @@ use Rattle.agreement.specs.Rule.{hasSent, breaksRule}
 use Rattle.runs.specs.Handed.{inbox}
 
 unfoldable pub computing : ℕ
-unfolding inbox sizes sized isBatch fits isLog every gather shows opened accepted passedOn takenUp keeps newly passesOn decision decisions ones entryOf entryBytes entriesOf entriesBytes unreadable recordBytes votesAfter votesOf messageBytes placeOf messageOf wellCut inboxBytes soundTray soundBatch soundKept keptRight soundNode openNumber stepNumber after outbox closeNumber handed hasSent breaksRule count maskOf signer signersOf enough slotIn signersNumber
+unfolding inbox sizes sized isBatch fits isLog every gather shows opened accepted passedOn takenUp keeps newly passesOn decision decisions ones
+    entryOf entryBytes entriesOf entriesBytes unreadable recordBytes votesAfter votesOf messageBytes placeOf messageOf wellCut inboxBytes soundTray
+    soundBatch soundKept keptRight soundNode openNumber stepNumber after outbox closeNumber handed hasSent breaksRule count maskOf signer signersOf
+    enough slotIn signersNumber
 computing = 0

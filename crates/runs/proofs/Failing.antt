@@ -26,7 +26,8 @@ module _ (hall : Hall) where
     where
       fails : Agreed hall → ⊥
       fails (inl (log, one)) =
-          clash (subst (λ (x : List ℕ). same (logOf hall i) x ≡ true) (one .same i (is-correct hall i ti) ∙ sym (one .same j (is-correct hall j tj))) (same-self (logOf hall i))) differ
+          let e = one .same i (is-correct hall i ti) ∙ sym (one .same j (is-correct hall j tj)) in
+          clash (subst (λ (x : List ℕ). same (logOf hall i) x ≡ true) e (same-self (logOf hall i))) differ
       fails (inr full) = let e = full i (is-correct hall i ti) in omega arith
 
   -- or its close answers neither a log nor 8

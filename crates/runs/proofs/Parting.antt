@@ -11,7 +11,12 @@ use Rattle.runs.proofs.Failing.{parted}
 
 pub forged-runs : ForgedRuns
 unfolding computing
-forged-runs = record { rule = refl; node1 = record { makes = refl; its = refl }; node2 = record { makes = refl; its = refl }; needed = parted (hallOf forged) unforged 1 2 refl refl refl refl refl }
+forged-runs = record {
+  rule = refl;
+  node1 = record { makes = refl; its = refl };
+  node2 = record { makes = refl; its = refl };
+  needed = parted (hallOf forged) unforged 1 2 refl refl refl refl refl;
+}
 
 pub next-round-runs : NextRoundRuns
 unfolding computing
@@ -28,8 +33,19 @@ next-round-runs = record {
 
 pub not-whole-runs : NotWholeRuns
 unfolding computing
-not-whole-runs = record { sent = refl; lost = refl; node1 = record { makes = refl; its = refl }; node2 = record { makes = refl; its = refl }; needed = parted notWhole whole 1 2 refl refl refl refl refl }
+not-whole-runs = record {
+  sent = refl;
+  lost = refl;
+  node1 = record { makes = refl; its = refl };
+  node2 = record { makes = refl; its = refl };
+  needed = parted notWhole whole 1 2 refl refl refl refl refl;
+}
 
 pub too-many-runs : TooManyRuns
 unfolding computing
-too-many-runs = record { rule = refl; node1 = record { makes = refl; its = refl }; node2 = record { makes = refl; its = refl }; needed = parted (hallOf tooMany) few 1 2 refl refl refl refl refl }
+too-many-runs = record {
+  rule = refl;
+  node1 = record { makes = refl; its = refl };
+  node2 = record { makes = refl; its = refl };
+  needed = parted (hallOf tooMany) few 1 2 refl refl refl refl refl;
+}

@@ -13,7 +13,13 @@ use Rattle.runs.proofs.Failing.{refused}
 
 pub no-room-runs : NoRoomRuns
 unfolding computing
-no-room-runs = record { twelve = refl; sent = refl; node1 = refl; node2 = record { makes = refl; its = refl }; needed = refused noRoom step-room 1 refl refl refl }
+no-room-runs = record {
+  twelve = refl;
+  sent = refl;
+  node1 = refl;
+  node2 = record { makes = refl; its = refl };
+  needed = refused noRoom step-room 1 refl refl refl;
+}
 
 pub half-faulty-runs : HalfFaultyRuns
 unfolding computing

@@ -3,6 +3,7 @@ pub mod Outcomes
 pub mod Schedule
 pub mod Document
 pub mod Shown
+pub mod TooLong
 pub mod Slots
 pub mod Counted
 pub mod Alone

@@ -3,6 +3,7 @@ ghost use mathlib.Core.Path.{_≡_};
 ghost use mathlib.Core.Bool.{true};
 ghost use Rattle.runs.specs.Document.{ScheduleRuns};
 ghost use Rattle.runs.specs.Shown.{ShownRuns};
+ghost use Rattle.runs.specs.TooLong.{TooLongRuns};
 ghost use Rattle.runs.specs.Counted.{CountedRuns};
 ghost use Rattle.runs.specs.Alone.{AloneRuns};
 ghost use Rattle.runs.specs.NoRoom.{NoRoomRuns};
@@ -14,9 +15,9 @@ ghost use Rattle.runs.specs.NextRound.{NextRoundRuns};
 ghost use Rattle.runs.specs.Unsigned.{UnsignedRuns};
 
 // Document 01's own schedule makes the log that it prints; so all make one log in a run where a faulty node shows correct nodes' votes, sent in that round
-// and before, while another primary equivocates. The schedule's nodes find the signers of their mark where the faulty node signs and counts as well.
+// and before, while another primary equivocates, and in one where a faulty node's message is too long. The schedule's nodes find the signers of their mark where the faulty node signs and counts as well.
 pub fn premises_can_be_met() -> bool
-    ensures { λ r. ⌜ (r ≡ true) × ScheduleRuns × ShownRuns × CountedRuns ⌝ }
+    ensures { λ r. ⌜ (r ≡ true) × ScheduleRuns × ShownRuns × TooLongRuns × CountedRuns ⌝ }
 {
     true
 }
