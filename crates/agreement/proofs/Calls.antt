@@ -39,9 +39,10 @@ module _ (hall : Hall) (i : ℕ) (calls : Calls hall i) where
       ∙ ap₂ (λ (s : Node) (room : ℕ). ifDone (opening-number s room) (openedNode s (hall .tray i)) s) made-is (calls .opening-room)
   nodes (suc r) l =
       let b : Round hall (suc r) = record { first = omega arith; last = l } in
+      let inbox = hall .inbox i (suc r) in
       calls .goes r b
       ∙ calls .steps r b .node
-      ∙ ap₂ (λ (s : Node) (room : ℕ). ifDone (stepNumber s (hall .inbox i (suc r)) room) (steppedNode s (hall .inbox i (suc r))) s) (nodes r (omega arith)) (calls .rooms r b)
+      ∙ ap₂ (λ (s : Node) (room : ℕ). ifDone (stepNumber s inbox room) (steppedNode s inbox) s) (nodes r (omega arith)) (calls .rooms r b)
 
   opening : take (calls .opened .length) (calls .back 1) ≡ sends hall i 1
   unfolding outbox
