@@ -102,11 +102,13 @@ module _ (hall : Hall) where
       → (votes : List Vote) → votesOf (hall .n) (messageOf (hall .inbox i r) j) ≡ some votes → (v : Vote) → In v votes
       → (c : ℕ) → Correct hall c → shows c v ≡ true → HasSent hall r c (v .primary) (v .batch)
 
+-- room enough for node i
 pub record Room (hall : Hall) (i : ℕ) : Type 0 where
   pub opens : RoomToOpen hall i
   pub steps : RoomToStep hall i
   pub closing : RoomToClose hall i
 
+-- all of them
 pub record Granted (hall : Hall) : Type 0 where
   pub nodes : Nodes hall
   pub few : Few hall
@@ -150,6 +152,7 @@ module _ (hall : Hall) (mark : ℕ → Mark) where
   abbrev pub Counts : (k : ℕ) (m : Mark) → Type 0
   Counts k m = Correct hall k → Marked hall mark k m
 
+-- what every correct node is handed
 pub record Signing (hall : Hall) (mark : ℕ → Mark) (slots : ℕ → List ℕ) : Type 0 where
   pub cut : SlotsCut hall slots
   pub alike : Alike hall mark
