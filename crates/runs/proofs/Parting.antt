@@ -24,11 +24,10 @@ next-round-runs = record {
   rule = refl;
   not-yet = refl;
   next = refl;
-  node1 = record { makes = refl; its = refl };
   node2 = record { makes = refl; its = refl };
   node3 = record { makes = refl; its = refl };
   node4 = record { makes = refl; its = refl };
-  needed = parted next-round-hall unforged 1 2 refl refl refl refl refl;
+  needed = parted next-round-hall unforged 2 3 refl refl refl refl refl;
 }
 
 pub not-whole-runs : NotWholeRuns

@@ -1,5 +1,5 @@
--- "a message too long for its two length bytes comes as silence": document 01's schedule with 65,536 bytes in place of the faulty node's message keeps what demand 3
--- grants, and the log is made without that node.
+-- "a message too long for its two length bytes comes as silence": document 01's schedule, in which the faulty node sends 65,536 bytes in round 2 and nothing else, keeps
+-- what demand 3 grants, and the log is made without that node.
 use mathlib.Core.Path.{_≡_}
 use mathlib.Core.List.{[], _∷_}
 use lib.ListN.{replicate}
@@ -16,11 +16,11 @@ tooLong = record {
   f = 1;
   faulty = 0 ∷ [];
   trays = schedule .trays;
-  sends = record { round = 1; from = 0; to = 1; message = replicate 65536 0 } ∷ [];
+  sends = record { round = 2; from = 0; to = 1; message = replicate 65536 0 } ∷ [];
 }
 
 pub record TooLongRuns : Type 0 where
-  pub silence : messageOf (hallOf tooLong .inbox 1 1) 0 ≡ []
+  pub silence : messageOf (hallOf tooLong .inbox 1 2) 0 ≡ []
   pub node1 : Makes (hallOf tooLong) 1 (entry 1 5 40 ∷ entry 2 5 60 ∷ [])
   pub node2 : Makes (hallOf tooLong) 2 (entry 1 5 40 ∷ entry 2 5 60 ∷ [])
   pub granted : Granted (hallOf tooLong)
