@@ -1,2 +1,8 @@
-pub mod Keeping
-pub mod Computed
+pub mod Deciding
+pub mod Failing
+pub mod Signing
+pub mod Computing
+pub mod Agreeing
+pub mod Parting
+pub mod Refusing
+pub mod Unsigning

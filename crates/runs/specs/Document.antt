@@ -6,7 +6,8 @@ use mathlib.Core.List.{List, [], _∷_}
 use Rattle.wire.specs.Message.{messageBytes}
 use Rattle.entries.specs.Fields.{entry}
 use Rattle.agreement.specs.Granted.{Granted}
-use Rattle.runs.specs.Schedule.{vote, Schedule, hallOf, breaks, Makes}
+use Rattle.runs.specs.Outcomes.{Makes}
+use Rattle.runs.specs.Schedule.{vote, Schedule, hallOf, breaks}
 
 -- 000101000003000500000046
 abbrev pub twelve : List ℕ

@@ -3,7 +3,9 @@ use mathlib.Core.Path.{_≡_}
 use mathlib.Core.Bool.{true, false}
 use mathlib.Core.List.{[], _∷_}
 use Rattle.entries.specs.Fields.{entry}
-use Rattle.runs.specs.Schedule.{vote, sending, Schedule, hallOf, breaks, Makes}
+use Rattle.runs.specs.Premises.{unforged}
+use Rattle.runs.specs.Outcomes.{Needed, Makes}
+use Rattle.runs.specs.Schedule.{vote, sending, Schedule, hallOf, breaks}
 use Rattle.runs.specs.Document.{schedule, twelve, printed}
 
 -- in round 2 node 0 shows node 1 alone a second batch of its own, with node 2's bit
@@ -21,3 +23,4 @@ pub record ForgedRuns : Type 0 where
   -- node 1 keeps two batches of primary 0 and decides empty, node 2 keeps one
   pub node1 : Makes (hallOf forged) 1 (entry 1 5 40 ∷ entry 2 5 60 ∷ [])
   pub node2 : Makes (hallOf forged) 2 printed
+  pub needed : Needed unforged (hallOf forged)

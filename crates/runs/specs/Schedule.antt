@@ -1,16 +1,14 @@
 -- A run as a schedule tells it: "`n`, `f`, `faulty` [..], n lines `tray` [..], lines `send` (round, from, to, message [..])". "Old logs are empty."
 use Prim.Native.Nat.{ℕ, _+_, _^_}
-use mathlib.Core.Path.{_≡_}
 use mathlib.Core.Bool.{Bool, cond, _&&_}
 use mathlib.Core.List.{List, [], _∷_, map}
 use lib.Dec.{eqb}
 use lib.ListN.{getD}
 use Rattle.laws.specs.Members.{holds}
-use Rattle.rules.specs.Refusals.{done}
 use Rattle.rules.specs.Vote.{Batch, Vote}
 use Rattle.wire.specs.Message.{messageBytes}
 use Rattle.tray.specs.Trays.{trayOf}
-use Rattle.agreement.specs.Hall.{Hall, closes, logOf}
+use Rattle.agreement.specs.Hall.{Hall}
 use Rattle.agreement.specs.Rule.{breaksRule}
 use Rattle.agreement.specs.Carried.{carriedHall}
 
@@ -53,8 +51,3 @@ hallOf s = carriedHall (s .n) (s .f) (λ j. holds j (s .faulty)) (λ j. trayOf (
 -- of each line, whether its message breaks the rule on shown votes
 abbrev pub breaks : Schedule → List Bool
 breaks s = map (λ (x : Send). breaksRule (hallOf s) (x .round) (x .message)) (s .sends)
-
--- node i's close is done, with this log
-pub record Makes (hall : Hall) (i : ℕ) (log : List ℕ) : Type 0 where
-  pub makes : closes hall i ≡ done
-  pub its : logOf hall i ≡ log

@@ -10,7 +10,8 @@ use Rattle.entries.specs.Fields.{entry}
 use Rattle.agreement.specs.Hall.{Hall, nodeAfter}
 use Rattle.agreement.specs.Granted.{Granted}
 use Rattle.agreement.specs.Rule.{hasSent}
-use Rattle.runs.specs.Schedule.{vote, sending, Schedule, hallOf, breaks, Makes}
+use Rattle.runs.specs.Outcomes.{Makes}
+use Rattle.runs.specs.Schedule.{vote, sending, Schedule, hallOf, breaks}
 
 -- the two batches of primary 0, and the one of primary 1
 abbrev pub early : Batch

@@ -3,7 +3,9 @@ use mathlib.Core.Path.{_≡_}
 use mathlib.Core.Bool.{false}
 use mathlib.Core.List.{[], _∷_}
 use Rattle.entries.specs.Fields.{entry}
-use Rattle.runs.specs.Schedule.{Schedule, vote, sending, hallOf, breaks, Makes}
+use Rattle.runs.specs.Premises.{few}
+use Rattle.runs.specs.Outcomes.{Needed, Makes}
+use Rattle.runs.specs.Schedule.{Schedule, vote, sending, hallOf, breaks}
 
 abbrev pub tooMany : Schedule
 tooMany = record {
@@ -19,3 +21,4 @@ pub record TooManyRuns : Type 0 where
   pub rule : breaks tooMany ≡ false ∷ false ∷ []
   pub node1 : Makes (hallOf tooMany) 1 (entry 1 5 40 ∷ entry 2 5 60 ∷ entry 3 5 70 ∷ [])
   pub node2 : Makes (hallOf tooMany) 2 (entry 1 5 40 ∷ entry 2 5 60 ∷ entry 3 5 80 ∷ [])
+  pub needed : Needed few (hallOf tooMany)
