@@ -5,7 +5,7 @@
  * above each call are that document's. No call keeps anything between calls; calls on different memory may run at once.
  *
  * What a host owes:
- *  - A pointer points to as many elements as its length says (a tray to one tray, a mark to 32 bytes, places to 16 numbers), aligned as their
+ *  - A pointer points to as many elements as its length says (a tray to one tray, a mark to 32 bytes), aligned as their
  *    type asks. Where the length is 0 the pointer may be NULL. A pointer that has no length is never NULL.
  *  - Lent memory (a pointer without const) overlaps no other memory handed to the same call, and nobody else reads or writes it until the call returns.
  *  - An outbox may be 3,960 bytes long and an output of a close 4,096 entries: then no call of theirs is refused by 9.
@@ -65,16 +65,8 @@ typedef struct {
     uint64_t entries[RAUDOKIIN_BATCH_MOST];
 } raudokiin_tray;
 
-typedef struct {
-    uint8_t number;
-    size_t count;
-} raudokiin_counted;
-
 /* An entry handed in goes to its place in the very tray that was lent; the other entries keep their order. Refusals: 2, 5, 6. */
 uint8_t raudokiin_put(raudokiin_tray *tray, uint64_t entry);
-
-/* The same on the sixteen places of a tray and their count; answers the count afterwards, which is the count handed in where it is refused. */
-raudokiin_counted raudokiin_place(uint64_t *entries, size_t count, uint64_t entry);
 
 /* ---- The node */
 
@@ -156,7 +148,7 @@ typedef struct {
     size_t next;
 } raudokiin_told_record;
 
-/* `size` bytes from `start` on, within the part; the empty part stands at 0. */
+/* `size` bytes from `start` on, within the part: after the head of a readable record, with no entries too; else none, at 0. */
 typedef struct {
     size_t start;
     size_t size;
@@ -206,9 +198,6 @@ RAUDOKIIN_ASSERT(sizeof(size_t) == 8 && sizeof(bool) == 1, "numbers as on x86-64
 RAUDOKIIN_SIZED(raudokiin_tray, 136, 8);
 RAUDOKIIN_PLACED(raudokiin_tray, count, 0);
 RAUDOKIIN_PLACED(raudokiin_tray, entries, 8);
-RAUDOKIIN_SIZED(raudokiin_counted, 16, 8);
-RAUDOKIIN_PLACED(raudokiin_counted, number, 0);
-RAUDOKIIN_PLACED(raudokiin_counted, count, 8);
 RAUDOKIIN_SIZED(raudokiin_node, 4648, 8);
 RAUDOKIIN_SIZED(raudokiin_made, 4656, 8);
 RAUDOKIIN_PLACED(raudokiin_made, number, 0);

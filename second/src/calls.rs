@@ -117,11 +117,11 @@ pub fn read_record(n: u64, part: &[u8]) -> RecordReading {
     }
 }
 
-/// The batch's bytes as that part of what was handed in; empty for an unreadable record and for a refusal.
+/// The batch's bytes as that part of what was handed in; for an unreadable record and for a refusal the empty part at its start.
 pub fn batch_bytes(n: u64, part: &[u8]) -> &[u8] {
     match nodes(n).map(|n| record::read(n, part)) {
         Ok(Some(vote)) => vote.batch,
-        _ => &[],
+        _ => &part[..0],
     }
 }
 

@@ -27,10 +27,9 @@ use run::{Held, Run};
 use tally::Rows;
 
 /// Every call with the refusals that concern it.
-pub const CALLS: [Rows; 13] = [
+pub const CALLS: [Rows; 12] = [
     rows::<opening::New>(),
     rows::<trays::Put>(),
-    rows::<trays::Place>(),
     rows::<opening::Open>(),
     rows::<steps::Step>(),
     rows::<logs::Close>(),

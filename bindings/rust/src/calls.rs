@@ -1,7 +1,7 @@
 //! Each call of libhost.a as a safe function with its whole answer, refusals in numbers. A lent output is a `&mut` slice, so it overlaps no input.
 use crate::ffi::*;
 pub use crate::ffi::{
-    BatchPart, Closed, Counted, Heard, Made, MeterBar, Node, Opened, SigningCount, Stepped, ToldMessage, ToldRecord, ToldWritten, Tray,
+    BatchPart, Closed, Heard, Made, MeterBar, Node, Opened, SigningCount, Stepped, ToldMessage, ToldRecord, ToldWritten, Tray,
 };
 
 // Each call reads the slices that it is handed and writes the lent ones, within their lengths, and keeps no pointer: that is proved of libhost.a for any
@@ -10,11 +10,6 @@ pub use crate::ffi::{
 #[inline]
 pub fn put(tray: &mut Tray, entry: u64) -> u8 {
     unsafe { raudokiin_put(tray, entry) }
-}
-
-#[inline]
-pub fn place(entries: &mut [u64; 16], count: usize, entry: u64) -> Counted {
-    unsafe { raudokiin_place(entries.as_mut_ptr(), count, entry) }
 }
 
 #[inline]

@@ -16,14 +16,6 @@ pub struct Tray {
     pub entries: [u64; 16],
 }
 
-/// What `raudokiin_place` answers.
-#[repr(C)]
-#[derive(Clone, Copy, PartialEq, Eq, Debug)]
-pub struct Counted {
-    pub number: u8,
-    pub count: usize,
-}
-
 /// What `raudokiin_new` answers.
 #[repr(C)]
 #[derive(Clone, Copy, PartialEq, Eq)]
@@ -122,7 +114,6 @@ pub struct Heard {
 
 extern "C" {
     pub fn raudokiin_put(tray: *mut Tray, entry: u64) -> u8;
-    pub fn raudokiin_place(entries: *mut u64, count: usize, entry: u64) -> Counted;
     pub fn raudokiin_new(n: usize, f: usize, me: usize) -> Made;
     pub fn raudokiin_open(node: Node, tray: Tray, outbox: *mut u8, outbox_length: usize) -> Opened;
     pub fn raudokiin_step(node: Node, inbox: *const u8, inbox_length: usize, outbox: *mut u8, outbox_length: usize) -> Stepped;
@@ -154,7 +145,6 @@ macro_rules! layout {
 
 layout!(Node, 4648, 8, block at 0);
 layout!(Tray, 136, 8, count at 0, entries at 8);
-layout!(Counted, 16, 8, number at 0, count at 8);
 layout!(Made, 4656, 8, number at 0, node at 8);
 layout!(Opened, 4664, 8, number at 0, length at 8, node at 16);
 layout!(Stepped, 4672, 8, number at 0, length at 8, unreadable at 16, node at 24);

@@ -58,6 +58,8 @@ fn answers_in_two_registers_stand_where_they_are_stated() {
     assert_eq!(calls::read_record(17, &record), ToldRecord { number: 1, readable: false, mask: 0, primary: 0, count: 0, next: 0 });
     assert_eq!(calls::batch_bytes(2, &record), BatchPart { start: 4, size: 16 });
     assert_eq!(calls::batch_bytes(2, &record[..19]), BatchPart { start: 0, size: 0 });
+    assert_eq!(calls::batch_bytes(17, &record), BatchPart { start: 0, size: 0 });
+    assert_eq!(calls::batch_bytes(2, &[1, 0, 3, 0, 0xff]), BatchPart { start: 4, size: 0 });
     assert_eq!(raudokiin::batch_bytes(2, &record), &record[4..20]);
     assert_eq!(calls::read_message(2, &record[..20]), ToldMessage { number: 0, readable: true, votes: 1 });
     assert_eq!(calls::read_message(2, &record), ToldMessage { number: 0, readable: false, votes: 0 });
@@ -66,9 +68,6 @@ fn answers_in_two_registers_stand_where_they_are_stated() {
     assert_eq!(calls::write_record(2, 1, 3, &[5, 6], &mut output), ToldWritten { number: 0, size: 20 });
     assert_eq!((&output[..20], output[20]), (&record[..20], 0xee));
     assert_eq!(calls::write_record(2, 1, 3, &[6, 5], &mut output), ToldWritten { number: 2, size: 0 });
-    let mut entries = [0; 16];
-    assert_eq!(calls::place(&mut entries, 0, 8), Counted { number: 0, count: 1 });
-    assert_eq!(calls::place(&mut entries, 1, 8), Counted { number: 5, count: 1 });
     assert_eq!(calls::bar(&[entry(2, 5, 60), entry(2, 6, u32::MAX)], 2, 5, 6), MeterBar { number: 0, sum: 60 + u64::from(u32::MAX) });
     assert_eq!(calls::bar(&[], 2, 6, 5), MeterBar { number: 11, sum: 0 });
     assert_eq!(calls::signers(1, 0, 0, &[7; 32], &[0; 33]), SigningCount { number: 0, mask: 1 });

@@ -1,20 +1,19 @@
 -- Each promise told in numbers determines its outcome: the case is determined by the wrapped call's own law, and the numbers by the case.
 use Prim.Native.Nat.{ℕ, _+_, _≤_}
 use mathlib.Core.Path.{_≡_, sym, ap, _∙_}
-use mathlib.Core.Bool.{cond}
 use mathlib.Core.List.{List}
 use native.Mathlib.Omega.{arith}
-use lib.Dec.{eqb}
+use denote.Ref.{RefT, ptr, now}
 use lib.ListN.{length, drop, length-drop}
 use lib.Seq.{length-take-le}
 use Rattle.rules.specs.Vote.{Vote}
-use Rattle.wire.specs.Sizes.{headSize}
-use Rattle.wire.proofs.Determined.{read-record-determined, batch-bytes-determined, read-message-determined, write-record-determined}
+use Rattle.wire.proofs.Readings.{same-start}
+use Rattle.wire.proofs.Determined.{read-record-determined, batch-handed-determined, read-message-determined, write-record-determined}
 use Rattle.host.specs.declared.ToldRecord.{ToldRecord}
 use Rattle.host.specs.declared.BatchPart.{BatchPart}
 use Rattle.host.specs.declared.ToldMessage.{ToldMessage}
 use Rattle.host.specs.declared.ToldWritten.{ToldWritten}
-use Rattle.host.specs.Told.{recordIn, tellRecord, TellsRecord, bytesIn, TellsPart, messageIn, tellMessage, TellsMessage, writtenIn, tellWritten, TellsWritten}
+use Rattle.host.specs.Told.{recordIn, tellRecord, TellsRecord, bytesIn, handedIn, TellsPart, messageIn, tellMessage, TellsMessage, writtenIn, tellWritten, TellsWritten}
 
 pub told-record-determined : (n : ℕ) (part : List ℕ) (a b : ToldRecord) → TellsRecord n part a → TellsRecord n part b → a ≡ b
 told-record-determined n part a b p q =
@@ -34,9 +33,9 @@ told-written-determined n v output a b o u p q =
 many : (part : List ℕ) (a : BatchPart) → a .start + a .size ≤ length part → length (bytesIn part a) ≡ a .size
 many part a within = length-take-le (a .size) (drop (a .start) part) (omega (arith, within, length-drop (a .start) part))
 
-pub batch-part-determined : (n : ℕ) (part : List ℕ) (a b : BatchPart) → TellsPart n part a → TellsPart n part b → a ≡ b
+pub batch-part-determined : (n : ℕ) (part : RefT (List ℕ)) (a b : BatchPart) → TellsPart n part a → TellsPart n part b → a ≡ b
 batch-part-determined n part a b p q =
-    let bytes = batch-bytes-determined n part (bytesIn part a) (bytesIn part b) (p .promised) (q .promised) in
-    let size : a .size ≡ b .size = sym (many part a (p .within)) ∙ ap length bytes ∙ many part b (q .within) in
-    let start : a .start ≡ b .start = p .start ∙ ap (λ (m : ℕ). cond (eqb m 0) 0 headSize) size ∙ sym (q .start) in
+    let same = batch-handed-determined n part (handedIn part a) (handedIn part b) (p .promised) (q .promised) in
+    let start = same-start (a .start) (b .start) (ptr part) (same .1) in
+    let size : a .size ≡ b .size = sym (many (now part) a (p .within)) ∙ ap length (same .0) ∙ many (now part) b (q .within) in
     λ i. record { start = start i; size = size i }

@@ -5,12 +5,12 @@ use Prim.Native.Nat.{ℕ, _+_, _≤_}
 use mathlib.Core.Path.{_≡_}
 use mathlib.Core.Bool.{true, false, cond}
 use mathlib.Core.List.{List}
+use denote.Ref.{RefT, ptr, name, now}
 use lib.Dec.{eqb}
 use lib.ListN.{length, take, drop}
 use Rattle.rules.specs.Refusals.{done}
 use Rattle.rules.specs.Vote.{Vote}
-use Rattle.wire.specs.Sizes.{headSize}
-use Rattle.wire.specs.Reader.{ReadRecord, BatchBytes}
+use Rattle.wire.specs.Reader.{ReadRecord, BatchHanded, onward}
 use Rattle.wire.specs.Message.{ReadMessage}
 use Rattle.wire.specs.Writer.{WriteRecord}
 use Rattle.wire.specs.declared.Record.{Record}
@@ -46,11 +46,14 @@ pub record TellsRecord (n : ℕ) (part : List ℕ) (answer : ToldRecord) : Type 
 abbrev pub bytesIn : List ℕ → BatchPart → List ℕ
 bytesIn part answer = take (answer .size) (drop (answer .start) part)
 
--- they lie within the part, after the head of its record; the empty part stands at 0
-pub record TellsPart (n : ℕ) (part : List ℕ) (answer : BatchPart) : Type 0 where
-  pub promised : BatchBytes n part (bytesIn part answer)
-  pub within : answer .start + answer .size ≤ length part
-  pub start : answer .start ≡ cond (eqb (answer .size) 0) 0 headSize
+-- the part of the caller's memory that the answer tells
+abbrev pub handedIn : RefT (List ℕ) → BatchPart → RefT (List ℕ)
+handedIn part answer = record { ptr = onward (answer .start) (ptr part); name = name part; now = bytesIn (now part) answer }
+
+-- it lies within the part that was handed in
+pub record TellsPart (n : ℕ) (part : RefT (List ℕ)) (answer : BatchPart) : Type 0 where
+  pub promised : BatchHanded n part (handedIn part answer)
+  pub within : answer .start + answer .size ≤ length (now part)
 
 -- ---- a message
 

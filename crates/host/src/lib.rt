@@ -1,4 +1,4 @@
-// What a host program links: each call with a C name, over numbers, structs of fixed layout and slices. Each is one call, and promises what that call promises.
+// What a host program links: each call with a C name, over numbers, structs of fixed layout and slices. Each promises what that call promises.
 mod log_calls; // log_calls.rt: the close, the signing count, the bar
 mod node_calls; // node_calls.rt: the tray, the fresh node, the opening, the step
 mod wire_calls; // wire_calls.rt: the reader, the writer, the inbox
@@ -14,7 +14,7 @@ pub struct ToldRecord {
     pub next: usize,
 }
 
-// Where the batch's bytes stand in the part that was handed in; the empty part stands at 0.
+// Where the batch's bytes stand in the part that was handed in: after the head of a readable record, with no entries too; else none, at 0.
 #[repr(C)]
 pub struct BatchPart {
     pub start: usize,

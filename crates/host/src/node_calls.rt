@@ -1,5 +1,4 @@
 // The calls of the tray and of the node.
-ghost use Rattle.tray.specs.Trays.{trayWith};
 ghost use Rattle.tray.specs.Put.{Put};
 ghost use Rattle.node.specs.State.{New};
 ghost use Rattle.node.specs.Opening.{Open};
@@ -8,7 +7,6 @@ use node::Made;
 use node::Node;
 use node::Opened;
 use step::Stepped;
-use tray::Counted;
 use tray::Tray;
 
 // `tray::put`, on the very tray that C lends.
@@ -17,18 +15,6 @@ pub extern "C" fn raudokiin_put(tray: &mut Tray, entry: u64) -> u8
     ensures { λ r. ⌜ Put (now (tray .entry)) entry r (now (tray .exit)) ⌝ }
 {
     tray::put(tray, entry)
-}
-
-// `tray::place`.
-#[no_mangle]
-pub extern "C" fn raudokiin_place(
-    entries: &mut [u64; rules::BATCH_MOST],
-    count: usize,
-    entry: u64,
-) -> Counted
-    ensures { λ r. ⌜ Put (trayWith count (now (entries .entry))) entry (r .number) (trayWith (r .count) (now (entries .exit))) ⌝ }
-{
-    tray::place(entries, count, entry)
 }
 
 // `Node::new`.

@@ -91,7 +91,7 @@ reader!(
     },
     |part| {
         let batch = calls::batch_bytes(part.n, &part.bytes);
-        let start = if batch.is_empty() { 0 } else { batch.as_ptr() as usize - part.bytes.as_ptr() as usize };
+        let start = batch.as_ptr() as usize - part.bytes.as_ptr() as usize;
         let number = match calls::read_record(part.n, &part.bytes) {
             RecordReading::Refused(number) => number,
             _ => 0,

@@ -1,4 +1,4 @@
-//! Trays, sound ones and ones unsound in each clause, and the two calls that put an entry.
+//! Trays, sound ones and ones unsound in each clause, and the call that puts an entry.
 
 use super::batches::{batch_of, some_batch, some_entry, MOST_IN_BATCH};
 use super::call::{Answer, Call, Lent};
@@ -119,45 +119,6 @@ impl Call for Put {
     }
 }
 
-/// The same on the places and the count alone; the second program puts into a tray of them.
-#[derive(Clone, PartialEq)]
-pub struct Place(pub Put);
-
-impl Call for Place {
-    const NAME: &'static str = "place";
-    const VALUES: &'static [&'static str] = &[];
-    const ROWS: &'static [u64] = Put::ROWS;
-
-    fn lent(&self) -> Lent {
-        self.0.lent()
-    }
-
-    fn proved(&self, lent: &mut Lent) -> Answer {
-        let tray = lent.lent_tray();
-        let counted = raudokiin::calls::place(&mut tray.entries, tray.count as usize, self.0.entry);
-        tray.count = counted.count as u64;
-        Answer::new(counted.number, &[])
-    }
-
-    fn second(&self, lent: &mut Lent) -> Answer {
-        self.0.second(lent)
-    }
-
-    fn smaller(&self) -> Vec<Place> {
-        self.0.smaller().into_iter().map(Place).collect()
-    }
-
-    fn show(&self) -> String {
-        self.0.show()
-    }
-}
-
-fn both(run: &mut Run, kind: &'static str, expected: u64, put: &Put) -> Held {
-    run.expect(kind, expected, put)?;
-    run.expect(kind, expected, &Place(put.clone()))?;
-    Ok(())
-}
-
 /// Trays of every count with a new entry at every place and with every entry they hold; entries 0 and the greatest.
 pub fn boundaries(run: &mut Run) -> Held {
     for count in 0..=16u64 {
@@ -165,33 +126,33 @@ pub fn boundaries(run: &mut Run) -> Held {
         let tray = tray_of(&batch);
         let number = if count < 16 { 0 } else { 6 };
         for place in 0..=count {
-            both(run, "a new entry at each place", number, &Put { tray, entry: 10 * place + 5 })?;
+            run.expect("a new entry at each place", number, &Put { tray, entry: 10 * place + 5 })?;
         }
         for &entry in &batch {
-            both(run, "each entry that the tray holds", 5, &Put { tray, entry })?;
+            run.expect("each entry that the tray holds", 5, &Put { tray, entry })?;
         }
         for entry in [0, u64::MAX] {
-            both(run, "the least and the greatest entry", number, &Put { tray, entry })?;
+            run.expect("the least and the greatest entry", number, &Put { tray, entry })?;
         }
     }
     let zero = RawTray { count: 1, ..RawTray::default() };
-    both(run, "0 into a tray that holds it", 5, &Put { tray: zero, entry: 0 })?;
-    both(run, "0 into the empty tray", 0, &Put { tray: RawTray::default(), entry: 0 })
+    run.expect("0 into a tray that holds it", 5, &Put { tray: zero, entry: 0 })?;
+    run.expect("0 into the empty tray", 0, &Put { tray: RawTray::default(), entry: 0 })?;
+    Ok(())
 }
 
 pub fn compare(run: &mut Run, random: &mut Random, turn: usize) -> Held {
     let tray = some_tray(random);
-    let put = Put { tray, entry: some_entry(random) };
-    run.hold("a sound tray", &put)?;
-    run.hold("a sound tray", &Place(put))?;
+    run.hold("a sound tray", &Put { tray, entry: some_entry(random) })?;
     if tray.count > 0 {
         let entry = tray.entries[random.below(tray.count as usize)];
-        both(run, "an entry that the tray holds", 5, &Put { tray, entry })?;
+        run.expect("an entry that the tray holds", 5, &Put { tray, entry })?;
     }
     let full = tray_of(&batch_of(random, MOST_IN_BATCH));
     run.hold("a full tray", &Put { tray: full, entry: some_entry(random) })?;
     let clause = &BATCH_CLAUSES[turn % BATCH_CLAUSES.len()];
     let tray = unsound_tray(random, clause);
     let entry = if random.chance(50) { *random.pick(&tray.entries) } else { some_entry(random) };
-    both(run, clause.0, 2, &Put { tray, entry })
+    run.expect(clause.0, 2, &Put { tray, entry })?;
+    Ok(())
 }
