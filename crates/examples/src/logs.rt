@@ -28,6 +28,7 @@ const LAST: u64 = 4095 * INTERVAL + WATT_HOURS_MOST;
 
 const BEYOND: u64 = 4096 * INTERVAL + WATT_HOURS_MOST;
 
+// A bar of a meter.
 fn bar(log: &[u64], meter: u16, first: u16, last: u16) {
     let answer = log::bar(log, meter, first, last);
     page::number(answer.number as u64);
@@ -71,16 +72,18 @@ fn close_on_4095(node: Node) {
     closed(node, &old);
 }
 
-// The bars; the close of P1, into an output with places to spare; an old log of 4,095 and one new entry, and two.
 pub(crate) fn all() {
+    // Both ends are included; a bar with none is 0; first after last is 11; equal neighbours are 7.
     bar_of_four(IN_6, 3, 5, 6);
     bar_of_four(IN_6, 2, 0, 65535);
     bar_of_four(IN_6, 3, 6, 5);
     bar_of_four(IN_5, 3, 6, 5);
     a_bar_at_its_limit();
     a_log_of_one_too_many();
+    // P1: alone, the log is the own batch.
     let old = [0u64; 0];
     closed(alone(1, 1, 0), &old);
+    // An old log of 4,095 and one new entry is done, with two it is 8.
     close_on_4095(alone(1, LAST, 0));
     close_on_4095(alone(2, LAST, BEYOND));
 }

@@ -38,15 +38,15 @@ pub(crate) fn unreadable() {
 
 // One number of several.
 fn item(v: u64) {
-    io::print_decimal(1, v);
     io::write_all(1, b" ");
+    io::print_decimal(1, v);
 }
 
 fn wide(x: u8) -> u64 {
     x as u64
 }
 
-// The first `count` bytes.
+// The first `count` bytes, a space before each.
 pub(crate) fn bytes(s: &[u8], count: usize) {
     copy();
     let mut i: usize = 0;
@@ -58,7 +58,7 @@ pub(crate) fn bytes(s: &[u8], count: usize) {
     }
 }
 
-// The first `count` entries.
+// The first `count` entries, a space before each.
 pub(crate) fn entries(s: &[u64], count: usize) {
     copy();
     let mut i: usize = 0;

@@ -46,7 +46,7 @@ fn inbox(n: usize, inbox: &[u8]) {
     page::number(heard.unreadable as u64);
 }
 
-// P2 written, into an output with a place to spare: entry 3.5.70 is 3 × 2^48 + 5 × 2^32 + 70.
+// The vote of P2, into an output with a place to spare: entry 3.5.70 is 3 × 2^48 + 5 × 2^32 + 70.
 fn write() {
     let batch = [844446404968518u64];
     let mut output = [7u8; 13];
@@ -54,7 +54,6 @@ fn write() {
     page::bytes(&output, 13);
 }
 
-// P3.
 fn seventeen_entries() {
     let mut part = [0u8; 140];
     part[1] = 17;
@@ -62,24 +61,30 @@ fn seventeen_entries() {
     record(3, &part);
 }
 
-// P2; P3; P4; P9; seventeen nodes; an inbox whose sender 0 is silent, sender 1 says the vote of P2, sender 2's one byte is unreadable; one byte too long.
 pub(crate) fn all() {
+    // P2: the twelve bytes read as a vote, and are written of it.
     message(3, b"\x00\x01\x01\x00\x00\x03\x00\x05\x00\x00\x00\x46");
     write();
+    // P3.
     seventeen_entries();
+    // P4: equal neighbours.
     record(
         3,
         b"\x00\x02\x01\x00\
         \x00\x00\x00\x00\x00\x00\x00\x07\
         \x00\x00\x00\x00\x00\x00\x00\x07",
     );
+    // P9: mask bit 3 of three nodes.
     record(3, b"\x00\x00\x09\x00");
+    // Seventeen nodes.
     record(17, b"\x00\x00\x01\x00");
+    // Sender 0 is silent, sender 1 says the vote of P2, sender 2's one byte is unreadable.
     inbox(
         3,
         b"\x00\x00\
         \x0c\x00\x00\x01\x01\x00\x00\x03\x00\x05\x00\x00\x00\x46\
         \x01\x00\x09",
     );
+    // One byte too long.
     inbox(1, b"\x00\x00\x00");
 }

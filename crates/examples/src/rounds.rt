@@ -50,22 +50,26 @@ fn run(first: &[u8], second: &[u8]) {
     closed(stepped(stepped(node, first), second), &old);
 }
 
-// P1's opening and round; P5, P8, P6, P7, P10, P10. An inbox is written by lines: the length, each record, the silence of the others.
+// An inbox is written by lines: the length, each record, the silence of the others.
 pub(crate) fn all() {
+    // P1: a node alone opens and steps.
     alone(1, 1, 0);
     let silence = b"\x00\x00\x00\x00\x00\x00";
+    // P5: round 2, witnesses {0} only.
     run(
         silence,
         b"\x0c\x00\
         \x00\x01\x01\x00\x00\x00\x00\x00\x00\x00\x00\x07\
         \x00\x00\x00\x00",
     );
+    // P8: primary 0, witnesses {1, 2}, round 2.
     run(
         silence,
         b"\x0c\x00\
         \x00\x01\x06\x00\x00\x00\x00\x00\x00\x00\x00\x07\
         \x00\x00\x00\x00",
     );
+    // P6: two batches of primary 0 in one message.
     run(
         b"\x18\x00\
         \x00\x01\x01\x00\x00\x00\x00\x00\x00\x00\x00\x01\
@@ -73,6 +77,7 @@ pub(crate) fn all() {
         \x00\x00\x00\x00",
         silence,
     );
+    // P7: a third batch in that message.
     run(
         b"\x24\x00\
         \x00\x01\x01\x00\x00\x00\x00\x00\x00\x00\x00\x01\
@@ -81,12 +86,14 @@ pub(crate) fn all() {
         \x00\x00\x00\x00",
         silence,
     );
+    // P10: an empty batch alone.
     run(
         b"\x04\x00\
         \x00\x00\x01\x00\
         \x00\x00\x00\x00",
         silence,
     );
+    // P10: an empty batch, then another.
     run(
         b"\x10\x00\
         \x00\x00\x01\x00\

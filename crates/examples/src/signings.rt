@@ -26,19 +26,23 @@ fn silence(n: usize, f: usize) {
     counted(n, f, &slots);
 }
 
+// One byte fewer than three slots have.
 fn a_byte_missing() {
     let slots = [0u8; 3 * SLOT_SIZE - 1];
     counted(3, 1, &slots);
 }
 
-// P11 first: an equal mark, and none. The greatest number is no f.
 pub(crate) fn all() {
+    // P11: one equal mark from another is done; none is 10.
     one_slot(1, 0);
     one_slot(0, 0);
+    // A first byte of 2 is silence; another mark does not sign.
     one_slot(2, 0);
     one_slot(1, 1);
+    // A node alone signs for itself, though its own slot is silent.
     silence(1, 0);
     a_byte_missing();
+    // Half of the nodes faulty is 1, and so is the greatest number as f.
     silence(16, 8);
     silence(16, 18446744073709551615);
 }

@@ -44,10 +44,13 @@ fn handed_in(tray: Tray, entry: u64) {
     page::entries(&entries, after.count);
 }
 
-// Held, a seventeenth, into a tray with a place in use that is not counted, to its place.
 pub(crate) fn all() {
+    // A held entry into a full tray is 5.
     handed_in(full_tray(), 30);
+    // A seventeenth entry is 6.
     handed_in(full_tray(), 35);
+    // An unsound tray is 2: the place behind the three is in use, and not counted.
     handed_in(tray_of_three(50), 30);
+    // An entry goes to its place.
     handed_in(tray_of_three(0), 30);
 }
