@@ -1,2 +1,0 @@
-pub mod Halls
-pub mod Rounds
