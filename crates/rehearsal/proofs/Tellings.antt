@@ -28,7 +28,7 @@ use Rattle.contents.proofs.Good.{good-sizes}
 use Rattle.played.specs.Standing.{correct, nodeBefore, stoodAt}
 use Rattle.played.specs.Playing.{hallOf, breach, goodAs, playedTo, playedOf}
 use Rattle.played.specs.declared.Played.{Played}
-use Rattle.report.specs.Signing.{hasBit}
+use Rattle.outcome.specs.Signing.{hasBit}
 use Rattle.report.specs.Report.{reportOf, textMost, Reports}
 use Rattle.report.proofs.Printing.{put-writes, writes-as}
 use Rattle.print.proofs.Lengths.{decimal-bound, line-length}
