@@ -28,7 +28,8 @@ use Rattle.agreement.proofs.Demand3.{agreed}
 use Rattle.schedule.specs.Forms.{formOf}
 use Rattle.schedule.specs.declared.Form.the-variants.{Good}
 use Rattle.contents.specs.Contents.{isFaulty, entriesOfTray}
-use Rattle.played.specs.Playing.{hallOf, breach}
+use Rattle.standing.specs.Run.{hallOf}
+use Rattle.played.specs.Playing.{breach}
 use Rattle.outcome.specs.Logs.{madeLog}
 use Rattle.report.specs.Lines.{allLines, nodesThat}
 use Rattle.outcome.proofs.Made.{new-log-most, makes-log}

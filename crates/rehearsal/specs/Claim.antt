@@ -14,7 +14,8 @@ use Rattle.agreement.specs.Granted.{Correct, Granted, Counting, Signing}
 use Rattle.schedule.specs.Forms.{formOf}
 use Rattle.schedule.specs.declared.Form.the-variants.{Good}
 use Rattle.contents.specs.Contents.{isFaulty, entriesOfTray}
-use Rattle.played.specs.Playing.{hallOf, breach}
+use Rattle.standing.specs.Run.{hallOf}
+use Rattle.played.specs.Playing.{breach}
 use Rattle.outcome.specs.Logs.{madeLog}
 use Rattle.outcome.specs.Marks.{markAt}
 use Rattle.outcome.specs.Spoken.{slotsAt}
