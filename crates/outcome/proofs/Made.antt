@@ -29,7 +29,7 @@ use Rattle.closing.specs.Close.{newLogOf, closeNumber, Close}
 use Rattle.closing.specs.Gather.{decidedMost}
 use Rattle.closing.specs.declared.Closed.{Closed}
 use Rattle.outcome.specs.Logs.{madeLog}
-use Rattle.outcome.specs.Held.{heldAs, heldAt, logIn, AllFit, AllHeld}
+use Rattle.outcome.specs.Held.{heldAs, logIn, AllFit, AllHeld}
 use Rattle.outcome.specs.declared.HeldLog.{HeldLog}
 
 -- ---- one log

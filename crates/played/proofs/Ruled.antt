@@ -1,6 +1,6 @@
 -- The rule on shown votes by the nodes' states is the rule by what they have sent: a correct node's state before a round has its own batch and all that it
 -- has kept, and that is what it has sent by then.
-use Prim.Native.Nat.{ℕ, zero, suc, _+_, _-_, _≤_, _<_}
+use Prim.Native.Nat.{ℕ, zero, suc, _+_, _≤_, _<_}
 use mathlib.Core.Path.{_≡_, refl, sym, ap, ap₂, _∙_}
 use mathlib.Core.Logic.{inl, inr}
 use mathlib.Core.Bool.{Bool, true, false, not, _&&_, _||_, cond}

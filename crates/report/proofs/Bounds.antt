@@ -18,7 +18,7 @@ use Rattle.node.specs.declared.Node.{Node}
 use Rattle.print.specs.Texts.{decimalOf, listText, lineText}
 use Rattle.print.specs.declared.Items.the-variants.{Nodes, Entries}
 use Rattle.print.proofs.Lengths.{decimal-bound, line-length, entries-most, nodes-most}
-use Rattle.schedule.specs.Keys.{nodesKey, faultsKey}
+use Rattle.header.specs.Keys.{nodesKey, faultsKey}
 use Rattle.outcome.specs.Logs.{madeLog}
 use Rattle.outcome.proofs.Made.{log-most}
 use Rattle.report.specs.Lines.{linesText, nodeKey, logKey, signersKey, sizesLines, nodeLines, allLines, nodesThat, signersAt}

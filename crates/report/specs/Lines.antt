@@ -5,7 +5,7 @@ use mathlib.Core.List.{List, [], _∷_, _++_}
 use Rattle.rules.specs.Step.{gather}
 use Rattle.print.specs.Texts.{decimalOf, listText, lineText}
 use Rattle.print.specs.declared.Items.the-variants.{Nodes, Entries}
-use Rattle.schedule.specs.Keys.{nodesKey, faultsKey}
+use Rattle.header.specs.Keys.{nodesKey, faultsKey}
 use Rattle.outcome.specs.Signing.{hasBit, maskAt}
 
 -- a line: a key with its `=`, and a value

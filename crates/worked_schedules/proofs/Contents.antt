@@ -7,7 +7,7 @@ use Rattle.text.specs.Lines.{keyed, linesOf, listLine, numberLine}
 use Rattle.text.specs.Lists.{ahead, andItem, belowAs, checked, itemOf, itemsOf, listOf, split}
 use Rattle.text.specs.Numbers.{decimal, digitOf, digitsBelow, entryAs, entryIn, fieldOf, numberIn, valueFrom}
 use Rattle.text.specs.Places.{placeOf}
-use Rattle.schedule.specs.Header.{andThen, headFrom, withFaults, withFaulty, withLine, withNodes}
+use Rattle.header.specs.Header.{andThen, headFrom, withFaults, withFaulty, withLine, withNodes}
 use Rattle.schedule.specs.Sends.{sendAs, sendIn, sendOf}
 use Rattle.contents.specs.Contents.{faultyIn, faultyLine, headerAs, isFaultyKey, itemsIn, messageIn, numbered, sendThen, sendsIn, sendsOf}
 use Rattle.worked_schedules.specs.Contents.{DocumentContents}

@@ -8,7 +8,7 @@ use Rattle.text.specs.Lists.{ahead, andItem, belowAs, checked, itemOf, itemsOf,
 use Rattle.text.specs.Numbers.{decimal, digitOf, digitsBelow, entryAs, entryIn, fieldOf, numberIn, valueFrom}
 use Rattle.text.specs.Places.{placeOf}
 use Rattle.schedule.specs.Forms.{formAfter, formOf, formSends, formTrays, found, isEnd, isTray}
-use Rattle.schedule.specs.Header.{andThen, headFrom, withFaults, withFaulty, withLine, withNodes}
+use Rattle.header.specs.Header.{andThen, headFrom, withFaults, withFaulty, withLine, withNodes}
 use Rattle.schedule.specs.Sends.{fitting, rankIn, sendAs, sendIn, sendOf}
 use Rattle.worked_schedules.specs.Forms.{HeaderForms, TrayForms, SendForms}
 

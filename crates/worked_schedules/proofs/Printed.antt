@@ -22,7 +22,7 @@ use Rattle.rules.specs.Sizes.{isBatch, sized, sizes, fits, isLog}
 use Rattle.rules.specs.Step.{gather, takenUp, keeps, newly, passesOn}
 use Rattle.rules.specs.Vote.{shows, opened, accepted, passedOn}
 use Rattle.schedule.specs.Forms.{formAfter, formOf, formSends, formTrays, found, isEnd, isTray}
-use Rattle.schedule.specs.Header.{andThen, headFrom, withFaults, withFaulty, withLine, withNodes}
+use Rattle.header.specs.Header.{andThen, headFrom, withFaults, withFaulty, withLine, withNodes}
 use Rattle.schedule.specs.Sends.{sendAs, sendIn, sendOf, fitting, rankIn}
 use Rattle.signing.specs.Count.{signersNumber}
 use Rattle.signing.specs.Slots.{slotIn}

@@ -1,8 +1,7 @@
 -- "A missing line is bad at the number it would have; a line without its LF is bad; anything after `end=` is bad": document 01's schedule, and schedules that are
 -- bad in each way, with their forms.
-use Prim.Native.Nat.{ℕ}
 use mathlib.Core.Path.{_≡_}
-use mathlib.Core.List.{List, [], _∷_, _++_}
+use mathlib.Core.List.{[], _∷_, _++_}
 use Rattle.schedule.specs.Forms.{formOf}
 use Rattle.schedule.specs.declared.Form.the-variants.{Good, Bad}
 use Rattle.worked_schedules.specs.Document.{n-three, f-one, faulty-zero, tray-none, tray-forty, tray-sixty, send-seventy, the-end, document}

@@ -1,6 +1,5 @@
 -- A faulty node is not alike; a correct one is by its log, which fits its places.
 use mathlib.Core.Path.{sym, _∙_}
-use native.Mathlib.Omega.{arith}
 use Rattle.outcome.proofs.Numbering.{faulty-not-alike, alike-by-log}
 use borrow.Author.Needs.{needs}
 use Rattle.outcome.proofs.marks.is_alike.Statement.{statement}

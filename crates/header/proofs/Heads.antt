@@ -20,13 +20,13 @@ use Rattle.text.specs.declared.Listed.{Listed}
 use Rattle.text.specs.declared.Number.{Number}
 use Rattle.text.specs.declared.Number.the-variants.{NoNumber, Value}
 use Rattle.text.proofs.Handed.{listed-bad, listed-room, listed-some}
-use Rattle.schedule.specs.Header.{andThen, headFrom, headedOf, headerKeys, headerSize, maskIn, noHeader, withFaults, withFaulty, withLine, withNodes}
-use Rattle.schedule.specs.Keys.{faultsKey, faultyKey, nodesKey}
-use Rattle.schedule.specs.declared.Headed.{Headed}
-use Rattle.schedule.specs.declared.Headed.the-variants.{BadAt, Read}
-use Rattle.schedule.specs.declared.Header.{Header}
-use Rattle.schedule.specs.declared.Key.{Key}
-use Rattle.schedule.specs.declared.Key.the-variants.{Faults, Faulty, Nodes}
+use Rattle.header.specs.Header.{andThen, headFrom, headedOf, headerKeys, headerSize, maskIn, noHeader, withFaults, withFaulty, withLine, withNodes}
+use Rattle.header.specs.Keys.{faultsKey, faultyKey, nodesKey}
+use Rattle.header.specs.declared.Headed.{Headed}
+use Rattle.header.specs.declared.Headed.the-variants.{BadAt, Read}
+use Rattle.header.specs.declared.Header.{Header}
+use Rattle.header.specs.declared.Key.{Key}
+use Rattle.header.specs.declared.Key.the-variants.{Faults, Faulty, Nodes}
 
 -- ---- the keys
 

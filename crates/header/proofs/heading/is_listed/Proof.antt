@@ -9,8 +9,8 @@ use lib.Dec.{eqb}
 use lib.ListN.{drop, length}
 use Rattle.laws.specs.Members.{holds}
 use Rattle.laws.proofs.Held.{any-at-end, any-goes, any-stops}
-use Rattle.schedule.proofs.heading.is_listed.Statement.{statement}
-use Rattle.schedule.proofs.heading.is_listed.Tie as tie
+use Rattle.header.proofs.heading.is_listed.Statement.{statement}
+use Rattle.header.proofs.heading.is_listed.Tie as tie
 
 abbrev Inv-loop : tie.InvT-loop
 Inv-loop nodes node i₀ i = (i ≤ length nodes) × (holds node nodes ≡ holds node (drop i nodes))

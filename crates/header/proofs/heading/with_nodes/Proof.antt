@@ -2,9 +2,9 @@
 use mathlib.Core.Path.{_∙_, sym}
 use borrow.Author.Needs.{needs}
 use borrow.Author.Tests.{not-false, not-true}
-use Rattle.schedule.proofs.Heads.{nodes-bad, nodes-good, nodes-none}
-use Rattle.schedule.proofs.heading.with_nodes.Statement.{statement}
-use Rattle.schedule.proofs.heading.with_nodes.Tie as tie
+use Rattle.header.proofs.Heads.{nodes-bad, nodes-good, nodes-none}
+use Rattle.header.proofs.heading.with_nodes.Statement.{statement}
+use Rattle.header.proofs.heading.with_nodes.Tie as tie
 
 slice-aggregate-line-number : tie.Need-slice-aggregate-line-number
 slice-aggregate-line-number c = search needs

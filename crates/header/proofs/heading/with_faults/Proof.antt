@@ -5,10 +5,10 @@ use denote.Ref.{now}
 use borrow.Author.Needs.{needs}
 use Rattle.text.specs.Numbers.{wordMost}
 use Rattle.text.proofs.Keys.{line-small}
-use Rattle.schedule.specs.Keys.{faultsKey}
-use Rattle.schedule.proofs.Heads.{faults-few, faults-many, faults-none}
-use Rattle.schedule.proofs.heading.with_faults.Statement.{statement}
-use Rattle.schedule.proofs.heading.with_faults.Tie as tie
+use Rattle.header.specs.Keys.{faultsKey}
+use Rattle.header.proofs.Heads.{faults-few, faults-many, faults-none}
+use Rattle.header.proofs.heading.with_faults.Statement.{statement}
+use Rattle.header.proofs.heading.with_faults.Tie as tie
 
 slice-aggregate-line-number : tie.Need-slice-aggregate-line-number
 slice-aggregate-line-number c = search needs

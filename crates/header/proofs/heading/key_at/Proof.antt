@@ -2,11 +2,11 @@
 use Prim.Native.Nat.{ℕ}
 use mathlib.Core.Path.{ap, sym}
 use lib.ListN.{getD}
-use Rattle.schedule.specs.Header.{headerKeys}
-use Rattle.schedule.specs.declared.Key.the-variants.{Faulty}
-use Rattle.schedule.proofs.Heads.{key-last}
-use Rattle.schedule.proofs.heading.key_at.Statement.{statement}
-use Rattle.schedule.proofs.heading.key_at.Tie as tie
+use Rattle.header.specs.Header.{headerKeys}
+use Rattle.header.specs.declared.Key.the-variants.{Faulty}
+use Rattle.header.proofs.Heads.{key-last}
+use Rattle.header.proofs.heading.key_at.Statement.{statement}
+use Rattle.header.proofs.heading.key_at.Tie as tie
 
 returns : tie.Need-returns
 returns c = ap (λ (j : ℕ). getD headerKeys j Faulty) (sym (c .if1 .taken))

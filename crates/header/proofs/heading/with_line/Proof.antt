@@ -2,10 +2,10 @@
 use mathlib.Core.Path.{_∙_, ap, sym}
 use denote.Ref.{now}
 use borrow.Author.Needs.{needs}
-use Rattle.schedule.specs.Header.{withLine}
-use Rattle.schedule.specs.declared.Key.{Key}
-use Rattle.schedule.proofs.heading.with_line.Statement.{statement}
-use Rattle.schedule.proofs.heading.with_line.Tie as tie
+use Rattle.header.specs.Header.{withLine}
+use Rattle.header.specs.declared.Key.{Key}
+use Rattle.header.proofs.heading.with_line.Statement.{statement}
+use Rattle.header.proofs.heading.with_line.Tie as tie
 
 enum-told : tie.Need-enum-told
 enum-told c = search needs

@@ -13,12 +13,12 @@ use Rattle.text.specs.Lines.{numberLine, listLine}
 use Rattle.text.specs.declared.Number.{Number}
 use Rattle.text.specs.declared.Number.the-variants.{Value, NoNumber}
 use Rattle.text.specs.declared.Kind.the-variants.{Below}
-use Rattle.schedule.specs.Keys.{nodesKey, faultsKey, faultyKey}
-use Rattle.schedule.specs.declared.Key.{Key}
-use Rattle.schedule.specs.declared.Key.the-variants.{Nodes, Faults, Faulty}
-use Rattle.schedule.specs.declared.Header.{Header}
-use Rattle.schedule.specs.declared.Headed.{Headed}
-use Rattle.schedule.specs.declared.Headed.the-variants.{Read, BadAt}
+use Rattle.header.specs.Keys.{nodesKey, faultsKey, faultyKey}
+use Rattle.header.specs.declared.Key.{Key}
+use Rattle.header.specs.declared.Key.the-variants.{Nodes, Faults, Faulty}
+use Rattle.header.specs.declared.Header.{Header}
+use Rattle.header.specs.declared.Headed.{Headed}
+use Rattle.header.specs.declared.Headed.the-variants.{Read, BadAt}
 
 -- the header lines, in their order: a line's number is its place in this list, counted from 1
 abbrev pub headerKeys : List Key

@@ -8,8 +8,8 @@ use Rattle.laws.specs.Masks.{maskOf}
 use Rattle.laws.specs.Members.{holds}
 use Rattle.laws.proofs.Bits.{shifted-bit, mask-turn, mask-fits}
 use Rattle.rules.specs.Sizes.{nodesMost}
-use Rattle.schedule.proofs.heading.mask_of.Statement.{statement}
-use Rattle.schedule.proofs.heading.mask_of.Tie as tie
+use Rattle.header.proofs.heading.mask_of.Statement.{statement}
+use Rattle.header.proofs.heading.mask_of.Tie as tie
 
 abbrev Inv-loop : tie.InvT-loop
 Inv-loop nodes mask₀ node₀ mask node = (node ≤ nodesMost) × (mask ≡ maskOf (λ (j : ℕ). holds j nodes) node)

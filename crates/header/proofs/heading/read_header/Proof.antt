@@ -7,11 +7,10 @@ use borrow.Author.Needs.{needs}
 use lib.ListN.{drop, length}
 use Rattle.text.specs.Lines.{linesOf}
 use Rattle.text.proofs.Cuts.{line-fits, line-here, lines-after}
-use Rattle.schedule.specs.Header.{headFrom, headedOf, headerKeys, headerSize}
-use Rattle.schedule.specs.Sends.{fits}
-use Rattle.schedule.proofs.Heads.{head-bad, head-done, head-good}
-use Rattle.schedule.proofs.heading.read_header.Statement.{statement}
-use Rattle.schedule.proofs.heading.read_header.Tie as tie
+use Rattle.header.specs.Header.{headFrom, headedOf, headerKeys, headerSize}
+use Rattle.header.proofs.Heads.{head-bad, head-done, head-good}
+use Rattle.header.proofs.heading.read_header.Statement.{statement}
+use Rattle.header.proofs.heading.read_header.Tie as tie
 
 abbrev Inv-loop : tie.InvT-loop
 Inv-loop s h₀ at₀ i₀ h at i = (at ≤ length s) × (i ≤ headerSize) × (headedOf (linesOf s) ≡ headFrom (drop i headerKeys) (i + 1) h (linesOf

@@ -5,9 +5,9 @@ use borrow.Author.Needs.{needs}
 use borrow.Author.Tests.{not-false, not-true}
 use lib.Seq.{length-take-le}
 use Rattle.text.proofs.Handed.{listed-room}
-use Rattle.schedule.proofs.Heads.{faulty-bad, faulty-few, faulty-many}
-use Rattle.schedule.proofs.heading.with_faulty.Statement.{statement}
-use Rattle.schedule.proofs.heading.with_faulty.Tie as tie
+use Rattle.header.proofs.Heads.{faulty-bad, faulty-few, faulty-many}
+use Rattle.header.proofs.heading.with_faulty.Statement.{statement}
+use Rattle.header.proofs.heading.with_faulty.Tie as tie
 
 slice-aggregate-line-list : tie.Need-slice-aggregate-line-list
 slice-aggregate-line-list c = search needs
