@@ -15,7 +15,7 @@ use Rattle.text.specs.Places.{comma, past}
 use Rattle.text.specs.declared.Number.{Number}
 use Rattle.text.specs.declared.Number.the-variants.{NoNumber, Value}
 use Rattle.text.proofs.Pairs.{hex-bytes}
-use Rattle.schedule.specs.Header.{headerSize}
+use Rattle.header.specs.Header.{headerSize}
 use Rattle.schedule.specs.Keys.{sendKey}
 use Rattle.schedule.specs.Sends.{Send, messageText, sendAs, sendIn, sendOf}
 use Rattle.contents.specs.Contents.{headerOf, sendThen, sendsIn, sendsOf}

@@ -14,12 +14,12 @@ use Rattle.laws.proofs.Bits.{mask-bit}
 use Rattle.laws.proofs.Tests.{clash}
 use Rattle.rules.specs.Sizes.{nodesMost}
 use Rattle.text.specs.Lines.{linesOf}
-use Rattle.schedule.specs.Header.{headedOf}
+use Rattle.header.specs.Header.{headedOf}
 use Rattle.schedule.specs.Sends.{faultyBit}
-use Rattle.schedule.specs.declared.Headed.{Headed}
-use Rattle.schedule.specs.declared.Headed.the-variants.{BadAt, Read}
-use Rattle.schedule.specs.declared.Header.{Header}
-use Rattle.schedule.proofs.Heads.{Whole, header-told}
+use Rattle.header.specs.declared.Headed.{Headed}
+use Rattle.header.specs.declared.Headed.the-variants.{BadAt, Read}
+use Rattle.header.specs.declared.Header.{Header}
+use Rattle.header.proofs.Heads.{Whole, header-told}
 use Rattle.contents.specs.Contents.{faultyIn, faultyLine, faultyOf, isFaulty, isFaultyKey, itemsIn}
 
 -- ---- the list of a header that was read

@@ -23,11 +23,12 @@ use Rattle.text.specs.Lines.{linesOf, listLine}
 use Rattle.text.specs.declared.Kind.the-variants.{Below, Entry}
 use Rattle.text.proofs.Items.{below-small, entry-item, line-batch, line-read}
 use Rattle.schedule.specs.Forms.{formOf}
-use Rattle.schedule.specs.Header.{headerSize}
-use Rattle.schedule.specs.Keys.{faultyKey, trayKey}
+use Rattle.header.specs.Header.{headerSize}
+use Rattle.header.specs.Keys.{faultyKey}
+use Rattle.schedule.specs.Keys.{trayKey}
 use Rattle.schedule.specs.Sends.{Send, rankOf}
 use Rattle.schedule.specs.declared.Form.the-variants.{Good}
-use Rattle.schedule.specs.declared.Header.{Header}
+use Rattle.header.specs.declared.Header.{Header}
 use Rattle.schedule.proofs.Fits.{fitting-told}
 use Rattle.contents.specs.Contents.{entriesOfTray, faultyOf, headerOf, isFaulty, itemsIn, sendsOf}
 use Rattle.contents.proofs.Bytes.{sends-bytes}

@@ -5,4 +5,3 @@ pub mod Bytes
 pub mod Told
 pub mod Good
 pub mod Found
-pub mod Examples

@@ -10,9 +10,9 @@ use Rattle.tray.specs.Trays.{trayOf, trayWith}
 use Rattle.text.specs.Lines.{linesOf}
 use Rattle.text.specs.Lists.{listedAs}
 use Rattle.text.specs.declared.Listed.{Listed}
-use Rattle.schedule.specs.Header.{headedOf, headerSize, noHeader}
-use Rattle.schedule.specs.declared.Headed.the-variants.{BadAt, Read}
-use Rattle.schedule.specs.declared.Header.{Header}
+use Rattle.header.specs.Header.{headedOf, headerSize, noHeader}
+use Rattle.header.specs.declared.Headed.the-variants.{BadAt, Read}
+use Rattle.header.specs.declared.Header.{Header}
 use Rattle.contents.specs.Contents.{headerAs, headerOf, itemsIn, sendsIn, sendsOf}
 
 -- the header that was read

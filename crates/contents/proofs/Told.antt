@@ -18,14 +18,14 @@ use Rattle.laws.proofs.Tests.{both, zero-one}
 use Rattle.text.specs.Lines.{keyed, linesOf, valueOf}
 use Rattle.text.proofs.Keys.{key-starts}
 use Rattle.schedule.specs.Forms.{formAfter, formOf, formSends, formTrays, isEnd, isTray, scheduleMost}
-use Rattle.schedule.specs.Header.{headedOf, headerSize}
+use Rattle.header.specs.Header.{headedOf, headerSize}
 use Rattle.schedule.specs.Keys.{endKey, sendKey}
 use Rattle.schedule.specs.Sends.{Send, fits, rankIn, rankOf, sendIn, sendOf}
 use Rattle.schedule.specs.declared.Form.the-variants.{Bad, Good}
-use Rattle.schedule.specs.declared.Headed.{Headed}
-use Rattle.schedule.specs.declared.Headed.the-variants.{BadAt, Read}
-use Rattle.schedule.specs.declared.Header.{Header}
-use Rattle.schedule.proofs.Heads.{Whole, header-told}
+use Rattle.header.specs.declared.Headed.{Headed}
+use Rattle.header.specs.declared.Headed.the-variants.{BadAt, Read}
+use Rattle.header.specs.declared.Header.{Header}
+use Rattle.header.proofs.Heads.{Whole, header-told}
 use Rattle.contents.specs.Contents.{headerOf, sendsIn, sendsOf}
 use Rattle.contents.proofs.Lines.{header-is}
 use Rattle.contents.proofs.Walk.{sends-none, sends-some}

@@ -8,14 +8,15 @@ use lib.ListN.{getD, drop}
 use Rattle.laws.specs.Members.{holds}
 use Rattle.text.specs.Lines.{linesOf, listLine}
 use Rattle.text.specs.declared.Kind.the-variants.{Below, Entry}
-use Rattle.schedule.specs.Keys.{faultyKey, trayKey}
-use Rattle.schedule.specs.Header.{headerKeys, headerSize, headedOf, noHeader}
+use Rattle.header.specs.Keys.{faultyKey}
+use Rattle.schedule.specs.Keys.{trayKey}
+use Rattle.header.specs.Header.{headerKeys, headerSize, headedOf, noHeader}
 use Rattle.schedule.specs.Sends.{Send, sendOf, sendingAs}
-use Rattle.schedule.specs.declared.Key.{Key}
-use Rattle.schedule.specs.declared.Key.the-variants.{Nodes, Faults, Faulty}
-use Rattle.schedule.specs.declared.Header.{Header}
-use Rattle.schedule.specs.declared.Headed.{Headed}
-use Rattle.schedule.specs.declared.Headed.the-variants.{Read, BadAt}
+use Rattle.header.specs.declared.Key.{Key}
+use Rattle.header.specs.declared.Key.the-variants.{Nodes, Faults, Faulty}
+use Rattle.header.specs.declared.Header.{Header}
+use Rattle.header.specs.declared.Headed.{Headed}
+use Rattle.header.specs.declared.Headed.the-variants.{Read, BadAt}
 use Rattle.schedule.specs.declared.Sending.{Sending}
 
 -- the header that was read; one of zeros where a header line is bad

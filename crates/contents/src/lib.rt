@@ -8,8 +8,8 @@ ghost use Rattle.text.specs.Put.{Put};
 ghost use Rattle.text.specs.Lines.{linesOf};
 ghost use Rattle.tray.specs.Trays.{trayOf};
 ghost use Rattle.contents.specs.Contents.{entriesOfTray, isFaulty, messageFor, numbered, sendingAt, sendsIn, sendsOf};
-use schedule::HEADER_SIZE;
-use schedule::Headed;
+use header::HEADER_SIZE;
+use header::Headed;
 use schedule::Sending;
 use text::Kind;
 use tray::Tray;
@@ -18,7 +18,7 @@ use tray::Tray;
 pub fn faulty_mask(s: &[u8]) -> u16
     ensures { λ r. ⌜ r ≡ maskOf (isFaulty (now (s .entry))) nodesMost ⌝ }
 {
-    match schedule::read_header(s) {
+    match header::read_header(s) {
         Headed::Read(h) => h.faulty,
         Headed::BadAt(_) => 0,
     }
@@ -42,7 +42,7 @@ fn send_lines(s: &[u8]) -> &[u8]
     ensures { λ r. ⌜ sendsOf (now (s .entry)) ≡ sendsIn (linesOf (now r)) ⌝ }
 {
     let after = text::past_lines(s, HEADER_SIZE);
-    match schedule::read_header(s) {
+    match header::read_header(s) {
         Headed::Read(h) => text::past_lines(after, h.n),
         Headed::BadAt(_) => after,
     }

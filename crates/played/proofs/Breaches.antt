@@ -12,7 +12,7 @@ use lib.ListN.{length, drop, drop-of-length-le}
 use lib.Seq.{drop-cons}
 use Rattle.agreement.specs.Hall.{Hall}
 use Rattle.agreement.specs.Rule.{breaksRule}
-use Rattle.schedule.specs.Header.{headerSize}
+use Rattle.header.specs.Header.{headerSize}
 use Rattle.schedule.specs.Forms.{formOf}
 use Rattle.schedule.specs.declared.Form.{Form}
 use Rattle.schedule.specs.declared.Form.the-variants.{Good, Bad}
@@ -21,10 +21,11 @@ use Rattle.contents.specs.Contents.{isFaulty, sendsOf, sendingAt, messageFor}
 use Rattle.shown.specs.Shown.{breaks}
 use Rattle.laws.specs.Masks.{maskOf}
 use Rattle.rules.specs.Sizes.{nodesMost}
-use Rattle.played.specs.Standing.{noNodes, standing}
-use Rattle.played.specs.Playing.{hallOf, breachFrom, breach, goodAs, playedTo, playedOf}
+use Rattle.standing.specs.Standing.{noNodes, standing}
+use Rattle.standing.specs.Run.{hallOf}
+use Rattle.played.specs.Playing.{breachFrom, breach, goodAs, playedTo, playedOf}
 use Rattle.played.specs.declared.Played.{Played}
-use Rattle.played.specs.declared.Standing.{Standing}
+use Rattle.standing.specs.declared.Standing.{Standing}
 use Rattle.contents.proofs.Good.{good-header}
 use Rattle.played.proofs.Sends.{sendAt, sent-numbers, send-fits, send-message}
 use Rattle.played.proofs.Ruled.{rule-by-states}

@@ -1,6 +1,6 @@
 -- The rule on shown votes by the nodes' states is the rule by what they have sent: a correct node's state before a round has its own batch and all that it
 -- has kept, and that is what it has sent by then.
-use Prim.Native.Nat.{ℕ, zero, suc, _+_, _-_, _≤_, _<_}
+use Prim.Native.Nat.{ℕ, zero, suc, _+_, _≤_, _<_}
 use mathlib.Core.Path.{_≡_, refl, sym, ap, ap₂, _∙_}
 use mathlib.Core.Logic.{inl, inr}
 use mathlib.Core.Bool.{Bool, true, false, not, _&&_, _||_, cond}
@@ -39,10 +39,10 @@ use Rattle.schedule.specs.Forms.{formOf}
 use Rattle.schedule.specs.declared.Form.the-variants.{Good}
 use Rattle.contents.specs.Contents.{isFaulty}
 use Rattle.shown.specs.Shown.{keptHolds, hasSent as sentHeld, forgedFor as forgedHeld, forged as forgedShown, forgedAmong, breaks}
-use Rattle.played.specs.Standing.{nodeBefore, standing}
-use Rattle.played.specs.Playing.{hallOf}
-use Rattle.played.specs.declared.Standing.{Standing}
-use Rattle.played.proofs.Standings.{node-there, goes-on, nodes-sized, nodes-most}
+use Rattle.standing.specs.Standing.{nodeBefore, standing}
+use Rattle.standing.specs.Run.{hallOf}
+use Rattle.standing.specs.declared.Standing.{Standing}
+use Rattle.standing.proofs.Standings.{node-there, goes-on, nodes-sized, nodes-most}
 
 -- ---- batches, place by place
 

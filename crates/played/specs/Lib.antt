@@ -1,3 +1,1 @@
-pub mod Inboxes
-pub mod Standing
 pub mod Playing

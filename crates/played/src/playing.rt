@@ -7,28 +7,28 @@ ghost use Rattle.schedule.specs.Forms.{formOf};
 ghost use Rattle.schedule.specs.declared.Form.the-variants.{Good};
 ghost use Rattle.contents.specs.Contents.{messageFor};
 ghost use Rattle.shown.specs.Shown.{breaks};
-ghost use Rattle.played.specs.Standing.{noNodes};
-ghost use Rattle.played.specs.Playing.{breach, hallOf, playedOf, playedTo};
+ghost use Rattle.standing.specs.Standing.{noNodes};
+ghost use Rattle.standing.specs.Run.{hallOf};
+ghost use Rattle.played.specs.Playing.{breach, playedOf, playedTo};
 use crate::Played;
-use crate::rounds::advance_to;
-use crate::rounds::no_node;
-use crate::rounds::start;
+use header::HEADER_SIZE;
 use node::Node;
 use rules::NODES_MOST;
 use schedule::Form;
-use schedule::HEADER_SIZE;
 use schedule::Sending;
+use standing::advance_to;
+use standing::start;
 use wire::MESSAGE_MOST;
 
 // Nothing is played: no nodes, with the line that is bad.
 fn not_played(bad: usize) -> Played
     ensures { λ r. ⌜ r ≡ record { bad = bad; nodes = noNodes } ⌝ }
 {
-    let filler = no_node();
-    let nobody = filler.node;
+    let empty = start();
+    let nodes = empty.nodes;
     Played {
         bad: bad,
-        nodes: [nobody; NODES_MOST],
+        nodes: nodes,
     }
 }
 

@@ -28,12 +28,13 @@ use Rattle.agreement.proofs.Demand3.{agreed}
 use Rattle.schedule.specs.Forms.{formOf}
 use Rattle.schedule.specs.declared.Form.the-variants.{Good}
 use Rattle.contents.specs.Contents.{isFaulty, entriesOfTray}
-use Rattle.played.specs.Playing.{hallOf, breach}
-use Rattle.report.specs.Logs.{madeLog}
-use Rattle.report.specs.Signing.{nodesThat}
-use Rattle.report.specs.Lines.{allLines}
-use Rattle.report.proofs.Made.{new-log-most, makes-log}
-use Rattle.report.proofs.OneLog.{many-correct, one-report}
+use Rattle.standing.specs.Run.{hallOf}
+use Rattle.played.specs.Playing.{breach}
+use Rattle.outcome.specs.Logs.{madeLog}
+use Rattle.report.specs.Lines.{allLines, nodesThat}
+use Rattle.outcome.proofs.Made.{new-log-most, makes-log}
+use Rattle.outcome.proofs.OneLog.{many-correct}
+use Rattle.report.proofs.OneLog.{one-report}
 use Rattle.rehearsal.specs.Rehearsal.{playedText, formText}
 use Rattle.rehearsal.specs.Claim.{correctNodes, oneText, OneLog as Printed, RehearsalsAgree}
 use Rattle.rehearsal.proofs.Premises.{run-granted}
@@ -110,6 +111,7 @@ module _ (s : List ℕ) (n f : ℕ) (good : formOf s ≡ Good n f) (kept : breac
         one .0,
         record {
           prints = ap (formText s) good ∙ ap (playedText s n f) kept ∙ one-text (one .0) (one .1);
+          well-formed = one .1 .well-formed;
           opened-in = all-in (one .0) (one .1);
           enough = omega (arith, listed-count (λ (j : ℕ). not (isFaulty s j)) n, many);
         },

@@ -3,4 +3,3 @@ pub mod Agreed
 pub mod Signing
 pub mod Tellings
 pub mod Determined
-pub mod Document

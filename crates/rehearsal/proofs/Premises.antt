@@ -19,8 +19,9 @@ use Rattle.schedule.specs.Forms.{formOf}
 use Rattle.schedule.specs.declared.Form.the-variants.{Good}
 use Rattle.contents.specs.Contents.{sendLine, isFaulty, entriesOfTray, sendsOf, messageFor, messageIn, numbered}
 use Rattle.contents.proofs.Good.{faulty-count}
-use Rattle.played.specs.Playing.{hallOf, breachFrom, breach}
-use Rattle.played.proofs.Standings.{given}
+use Rattle.standing.specs.Run.{hallOf}
+use Rattle.played.specs.Playing.{breachFrom, breach}
+use Rattle.standing.proofs.Standings.{given}
 
 numbers-are : (r j i q k l : ℕ) → numbered r j i q k l ≡ true → q ≡ r
 unfolding numbered

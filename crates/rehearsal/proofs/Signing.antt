@@ -13,10 +13,11 @@ use Rattle.agreement.specs.Granted.{Correct, Counting, Signing}
 use Rattle.schedule.specs.Forms.{formOf}
 use Rattle.schedule.specs.declared.Form.the-variants.{Good}
 use Rattle.contents.specs.Contents.{isFaulty}
-use Rattle.played.specs.Playing.{hallOf, breach}
-use Rattle.report.specs.Marks.{placeIn, markWith, distinct, numberAt}
-use Rattle.report.proofs.Speaking.{mark-size, slots-size}
-use Rattle.report.proofs.OneLog.{spoken-at}
+use Rattle.standing.specs.Run.{hallOf}
+use Rattle.played.specs.Playing.{breach}
+use Rattle.outcome.specs.Marks.{placeIn, markWith, distinct, numberAt}
+use Rattle.outcome.proofs.Speaking.{mark-size, slots-size}
+use Rattle.outcome.proofs.OneLog.{spoken-at}
 use Rattle.rehearsal.specs.Claim.{printedLog, marks, slots, RehearsalsGranted}
 use Rattle.rehearsal.proofs.Premises.{run-granted}
 use Rattle.rehearsal.proofs.Agreed.{printed, makes}

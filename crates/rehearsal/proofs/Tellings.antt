@@ -25,10 +25,11 @@ use Rattle.schedule.specs.declared.Form.{Form}
 use Rattle.schedule.specs.declared.Form.the-variants.{Good, Bad}
 use Rattle.contents.specs.Contents.{isFaulty}
 use Rattle.contents.proofs.Good.{good-sizes}
-use Rattle.played.specs.Standing.{correct, nodeBefore, stoodAt}
-use Rattle.played.specs.Playing.{hallOf, breach, goodAs, playedTo, playedOf}
+use Rattle.standing.specs.Standing.{correct, nodeBefore, stoodAt}
+use Rattle.standing.specs.Run.{hallOf}
+use Rattle.played.specs.Playing.{breach, goodAs, playedTo, playedOf}
 use Rattle.played.specs.declared.Played.{Played}
-use Rattle.report.specs.Signing.{hasBit}
+use Rattle.outcome.specs.Signing.{hasBit}
 use Rattle.report.specs.Report.{reportOf, textMost, Reports}
 use Rattle.report.proofs.Printing.{put-writes, writes-as}
 use Rattle.print.proofs.Lengths.{decimal-bound, line-length}

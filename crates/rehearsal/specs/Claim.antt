@@ -1,11 +1,12 @@
--- Of every schedule that is not bad, all printed logs are the same log, it has every entry of every correct node's tray, and every printed `signers` is exactly
--- the correct nodes, f + 1 or more.
+-- Of every schedule that is not bad, all printed logs are the same log, at most 4,096 entries that ascend strictly, with every entry of every correct node's tray,
+-- and every printed `signers` is exactly the correct nodes, f + 1 or more.
 use Prim.Native.Nat.{ℕ, _+_, _≤_, _<_}
 use mathlib.Core.Path.{_≡_}
-use mathlib.Core.Bool.{false, not, cond}
+use mathlib.Core.Bool.{true, false, not, cond}
 use mathlib.Core.List.{List, [], _++_}
 use lib.ListN.{length}
 use Rattle.laws.specs.Members.{In}
+use Rattle.rules.specs.Sizes.{isLog}
 use Rattle.rules.specs.Step.{gather}
 use Rattle.rules.specs.Signers.{Mark}
 use Rattle.agreement.specs.Hall.{nodeAfter}
@@ -13,12 +14,12 @@ use Rattle.agreement.specs.Granted.{Correct, Granted, Counting, Signing}
 use Rattle.schedule.specs.Forms.{formOf}
 use Rattle.schedule.specs.declared.Form.the-variants.{Good}
 use Rattle.contents.specs.Contents.{isFaulty, entriesOfTray}
-use Rattle.played.specs.Playing.{hallOf, breach}
-use Rattle.report.specs.Logs.{madeLog}
-use Rattle.report.specs.Marks.{markAt}
-use Rattle.report.specs.Spoken.{slotsAt}
-use Rattle.report.specs.Signing.{nodesThat}
-use Rattle.report.specs.Lines.{linesText, sizesLines, nodeLines}
+use Rattle.standing.specs.Run.{hallOf}
+use Rattle.played.specs.Playing.{breach}
+use Rattle.outcome.specs.Logs.{madeLog}
+use Rattle.outcome.specs.Marks.{markAt}
+use Rattle.outcome.specs.Spoken.{slotsAt}
+use Rattle.report.specs.Lines.{linesText, sizesLines, nodeLines, nodesThat}
 use Rattle.rehearsal.specs.Rehearsal.{rehearsalOf}
 
 -- the correct nodes of n
@@ -31,6 +32,8 @@ oneText s n f log signers = linesText (sizesLines n f ++ gather (λ (i : ℕ). c
 
 pub record OneLog (s : List ℕ) (n f : ℕ) (log : List ℕ) : Type 0 where
   pub prints : rehearsalOf s ≡ oneText s n f log (correctNodes s n)
+  -- "A log is at most 4,096 entries, strictly ascending."
+  pub well-formed : isLog log ≡ true
   pub opened-in : (c e : ℕ) → c < n → isFaulty s c ≡ false → In e (entriesOfTray s c) → In e log
   pub enough : f + 1 ≤ length (correctNodes s n)
 

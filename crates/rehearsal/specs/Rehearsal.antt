@@ -13,7 +13,8 @@ use Rattle.schedule.specs.Forms.{formOf}
 use Rattle.schedule.specs.declared.Form.{Form}
 use Rattle.schedule.specs.declared.Form.the-variants.{Good, Bad}
 use Rattle.contents.specs.Contents.{isFaulty}
-use Rattle.played.specs.Playing.{hallOf, breach}
+use Rattle.standing.specs.Run.{hallOf}
+use Rattle.played.specs.Playing.{breach}
 use Rattle.report.specs.Report.{reportOf}
 use Rattle.rehearsal.specs.declared.Rehearsed.{Rehearsed}
 

@@ -33,7 +33,7 @@ pub fn rehearsal(schedule: &[u8], output: &mut [u8]) -> Rehearsed
     }
 }
 
-// Every schedule that is not bad prints one log, with every entry of every correct node's tray, and the correct nodes as its signers.
+// Every schedule that is not bad prints one log, which is a log, with every entry of every correct node's tray, and the correct nodes as its signers.
 pub fn rehearsals_agree() -> bool
     ensures { λ r. ⌜ (r ≡ true) × RehearsalsAgree ⌝ }
 {

@@ -18,12 +18,11 @@ use Rattle.node.specs.declared.Node.{Node}
 use Rattle.print.specs.Texts.{decimalOf, listText, lineText}
 use Rattle.print.specs.declared.Items.the-variants.{Nodes, Entries}
 use Rattle.print.proofs.Lengths.{decimal-bound, line-length, entries-most, nodes-most}
-use Rattle.schedule.specs.Keys.{nodesKey, faultsKey}
-use Rattle.report.specs.Logs.{madeLog}
-use Rattle.report.specs.Signing.{nodesThat, signersAt}
-use Rattle.report.specs.Lines.{linesText, nodeKey, logKey, signersKey, sizesLines, nodeLines, allLines}
+use Rattle.header.specs.Keys.{nodesKey, faultsKey}
+use Rattle.outcome.specs.Logs.{madeLog}
+use Rattle.outcome.proofs.Made.{log-most}
+use Rattle.report.specs.Lines.{linesText, nodeKey, logKey, signersKey, sizesLines, nodeLines, allLines, nodesThat, signersAt}
 use Rattle.report.specs.Report.{reportOf, textMost}
-use Rattle.report.proofs.Made.{log-most}
 use Rattle.report.proofs.Printing.{lines-append, node-after, no-nodes}
 
 -- ---- the lines of a node

@@ -9,9 +9,9 @@ use lib.ListN.{length, set, length-set}
 use lib.Seq.{take-suc-set}
 use Rattle.rules.specs.Sizes.{nodesMost}
 use Rattle.rules.specs.Step.{gather}
-use Rattle.report.specs.Signing.{nodesThat}
-use Rattle.report.specs.Held.{Lists}
-use Rattle.report.specs.declared.signers.Listing.{Listing}
+use Rattle.report.specs.Lines.{nodesThat}
+use Rattle.report.specs.Listing.{Lists}
+use Rattle.report.specs.declared.listing.Listing.{Listing}
 
 module _ (t : ℕ → Bool) where
   passed-over : (j : ℕ) → t j ≡ false → nodesThat t j ≡ nodesThat t (j + 1)

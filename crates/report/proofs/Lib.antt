@@ -1,6 +1,3 @@
-pub mod Made
-pub mod Numbering
-pub mod Speaking
 pub mod Counting
 pub mod Printing
 pub mod Alike

@@ -12,7 +12,7 @@ use Rattle.laws.proofs.Lent.{comes-back}
 use Rattle.rules.specs.Step.{gather}
 use Rattle.print.specs.Texts.{lineText}
 use Rattle.text.specs.Put.{roomFor, Put}
-use Rattle.report.specs.Signing.{hasBit, nodesThat}
+use Rattle.outcome.specs.Signing.{hasBit}
 use Rattle.report.specs.Lines.{Line, linesText, nodeLines, allLines}
 use Rattle.report.specs.Report.{Writes}
 
@@ -96,9 +96,8 @@ pub faulty-prints-none : (faulty i : ℕ) (ls : List Line) → hasBit faulty i �
 unfolding linesText
 faulty-prints-none faulty i ls e = simp e
 
-pub correct-prints : (faulty i n : ℕ) (log : List ℕ) (mask counted : ℕ) → mask ≡ counted → hasBit faulty i ≡ false
-    → linesText (nodeLines i log (nodesThat (hasBit mask) n)) ≡ linesText (cond (hasBit faulty i) [] (nodeLines i log (nodesThat (hasBit counted) n)))
-correct-prints faulty i n log mask counted m e = simp e (ap (λ (k : ℕ). linesText (nodeLines i log (nodesThat (hasBit k) n))) m)
+pub correct-prints : (faulty i : ℕ) (ls : List Line) → hasBit faulty i ≡ false → linesText ls ≡ linesText (cond (hasBit faulty i) [] ls)
+correct-prints faulty i ls e = simp e
 
 -- the lines of the nodes below i, and of node i
 module _ (t : ℕ → Bool) (log signers : ℕ → List ℕ) where

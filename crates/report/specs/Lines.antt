@@ -5,8 +5,8 @@ use mathlib.Core.List.{List, [], _∷_, _++_}
 use Rattle.rules.specs.Step.{gather}
 use Rattle.print.specs.Texts.{decimalOf, listText, lineText}
 use Rattle.print.specs.declared.Items.the-variants.{Nodes, Entries}
-use Rattle.schedule.specs.Keys.{nodesKey, faultsKey}
-use Rattle.report.specs.Signing.{signersAt}
+use Rattle.header.specs.Keys.{nodesKey, faultsKey}
+use Rattle.outcome.specs.Signing.{hasBit, maskAt}
 
 -- a line: a key with its `=`, and a value
 pub record Line : Type 0 where
@@ -44,6 +44,14 @@ nodeLines i log signers = line nodeKey (decimalOf i) ∷ line logKey (listText E
 -- the lines of each correct node of n; log i, signers i: those of node i, where it is correct
 unfoldable pub allLines : (faulty : ℕ → Bool) (log signers : ℕ → List ℕ) (n : ℕ) → List Line
 allLines faulty log signers n = gather (λ (i : ℕ). cond (faulty i) [] (nodeLines i (log i) (signers i))) n
+
+-- those of n nodes that pass the test, ascending
+unfoldable pub nodesThat : (ℕ → Bool) → (n : ℕ) → List ℕ
+nodesThat t n = gather (λ (j : ℕ). cond (t j) (j ∷ []) []) n
+
+-- the signers of node i's log, as that node counts them
+abbrev pub signersAt : (n f : ℕ) (faulty : ℕ → Bool) (log : ℕ → List ℕ) (i : ℕ) → List ℕ
+signersAt n f faulty log i = nodesThat (hasBit (maskAt n f faulty log i)) n
 
 -- all lines
 abbrev pub reportLines : (n f : ℕ) (faulty : ℕ → Bool) (log : ℕ → List ℕ) → List Line

@@ -2,14 +2,14 @@
 use Prim.Native.Nat.{ℕ, _*_, _<_, _≤_}
 use mathlib.Core.Path.{_≡_}
 use mathlib.Core.Bool.{Bool}
-use mathlib.Core.List.{List, []}
+use mathlib.Core.List.{List}
 use lib.ListN.{length}
 use Rattle.laws.specs.Parts.{onto}
 use Rattle.node.specs.State.{nodeAt}
 use Rattle.rules.specs.Sizes.{nodesMost}
 use Rattle.node.specs.declared.Node.{Node}
-use Rattle.report.specs.Logs.{madeLog}
-use Rattle.report.specs.Signing.{hasBit}
+use Rattle.outcome.specs.Logs.{madeLog}
+use Rattle.outcome.specs.Signing.{hasBit}
 use Rattle.report.specs.Lines.{linesText, reportLines}
 
 -- the whole text; node i: the state of node i after round f + 1, where it is correct

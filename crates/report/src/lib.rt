@@ -2,14 +2,10 @@
 ghost use Rattle.report.specs.Report.{Reports};
 
 mod lines;
-mod logs;
-mod marks;
-mod signers;
-mod slots;
+mod listing;
 
 use node::Node;
 use rules::NODES_MOST;
-use signing::SLOT_SIZE;
 
 // Bytes of a report, at most.
 pub const TEXT_MOST: usize = 6144 * NODES_MOST;
@@ -27,11 +23,7 @@ pub fn report_into(
     if NODES_MOST < n {
         return 0;
     }
-    let held = logs::close_all(n, faulty, nodes);
-    let numbers = marks::number_all(n, faulty, held);
-    let of = numbers.of;
-    let mut spoken = [0u8; NODES_MOST * SLOT_SIZE];
-    let size = slots::put_slots(n, faulty, of, &mut spoken);
+    let outcome = outcome::outcome_of(n, f, faulty, nodes);
     let at = lines::put_sizes(text, n, f);
-    at + lines::put_nodes(&mut text[at..], n, f, faulty, held, of, &spoken[..size])
+    at + lines::put_nodes(&mut text[at..], n, faulty, outcome)
 }

@@ -8,15 +8,16 @@ ghost use Rattle.rules.specs.Sizes.{nodesMost};
 ghost use Rattle.entries.specs.Bytes.{AreEntries};
 ghost use Rattle.print.specs.Texts.{lineText, listText};
 ghost use Rattle.print.specs.declared.Items.the-variants.{Entries, Nodes};
-ghost use Rattle.report.specs.Signing.{hasBit, nodesThat, signersBy};
-ghost use Rattle.report.specs.Lines.{allLines, linesText, logKey, nodeLines, signersKey, sizesLines};
+ghost use Rattle.outcome.specs.Signing.{hasBit};
+ghost use Rattle.outcome.specs.Held.{AllFit, Fits, heldAt, logIn};
+ghost use Rattle.report.specs.Lines.{allLines, linesText, logKey, nodeLines, nodesThat, signersKey, sizesLines};
 ghost use Rattle.report.specs.Report.{Writes};
-ghost use Rattle.report.specs.Held.{AllEntries, AllFit, Fits, heldAt, logIn};
-use crate::logs::HeldLog;
-use crate::logs::has_bit;
-use crate::signers;
+ghost use Rattle.report.specs.Listing.{AllEntries};
+use crate::listing;
+use outcome::HeldLog;
+use outcome::Outcome;
+use outcome::has_bit;
 use print::Items;
-use rules::NODES_MOST;
 
 // n and f.
 pub(crate) fn put_sizes(text: &mut [u8], n: usize, f: usize) -> usize
@@ -39,7 +40,7 @@ fn put_signers(text: &mut [u8], n: usize, mask: u16) -> usize
     requires { ⌜ n ≤ nodesMost ⌝ }
     ensures { λ r. ⌜ Writes (lineText signersKey (listText Nodes (nodesThat (hasBit mask) n))) (now (text .entry)) r (now (text .exit)) ⌝ }
 {
-    let listing = signers::nodes_in(n, mask);
+    let listing = listing::nodes_in(n, mask);
     let count = listing.count;
     let nodes = listing.nodes;
     print::put_list_line(text, b"signers=", Items::Nodes, &nodes[..count])
@@ -60,43 +61,27 @@ fn put_node(text: &mut [u8], n: usize, i: usize, log: HeldLog, mask: u16) -> usi
 }
 
 // Node i where it is correct; nothing of a faulty one.
-fn put_correct(
-    text: &mut [u8],
-    n: usize,
-    f: usize,
-    faulty: u16,
-    i: usize,
-    log: HeldLog,
-    number: u8,
-    slots: &[u8],
-) -> usize
-    requires { ⌜ (n ≤ nodesMost) × (i < n) × (hasBit faulty i ≡ false → Fits log) ⌝ }
-    ensures { λ r. ⌜ Writes (linesText (cond (hasBit faulty i) [] (nodeLines i (logIn log) (signersBy n f i number (now (slots .entry)))))) (now (text .entry)) r (now (text .exit)) × (hasBit faulty i ≡ false → AreEntries (logIn log)) ⌝ }
+fn put_correct(text: &mut [u8], n: usize, faulty: u16, i: usize, log: HeldLog, mask: u16) -> usize
+    requires { ⌜ (n ≤ nodesMost) × Fits log ⌝ }
+    ensures { λ r. ⌜ Writes (linesText (cond (hasBit faulty i) [] (nodeLines i (logIn log) (nodesThat (hasBit mask) n)))) (now (text .entry)) r (now (text .exit)) × (hasBit faulty i ≡ false → AreEntries (logIn log)) ⌝ }
 {
     if has_bit(faulty, i) {
         return 0;
     }
-    let mask = signers::counted(n, f, i, number, slots);
     put_node(text, n, i, log, mask)
 }
 
 // Each correct node, ascending.
-pub(crate) fn put_nodes(
-    text: &mut [u8],
-    n: usize,
-    f: usize,
-    faulty: u16,
-    logs: [HeldLog; NODES_MOST],
-    numbers: [u8; NODES_MOST],
-    slots: &[u8],
-) -> usize
-    requires { ⌜ (n ≤ nodesMost) × AllFit (hasBit faulty) n logs ⌝ }
-    ensures { λ r. ⌜ Writes (linesText (allLines (hasBit faulty) (λ i. logIn (heldAt logs i)) (λ i. signersBy n f i (getD numbers i 0) (now (slots .entry))) n)) (now (text .entry)) r (now (text .exit)) × AllEntries (hasBit faulty) (λ i. logIn (heldAt logs i)) n ⌝ }
+pub(crate) fn put_nodes(text: &mut [u8], n: usize, faulty: u16, outcome: Outcome) -> usize
+    requires { ⌜ (n ≤ nodesMost) × AllFit (outcome .logs) ⌝ }
+    ensures { λ r. ⌜ Writes (linesText (allLines (hasBit faulty) (λ i. logIn (heldAt (outcome .logs) i)) (λ i. nodesThat (hasBit (getD (outcome .signers) i 0)) n) n)) (now (text .entry)) r (now (text .exit)) × AllEntries (hasBit faulty) (λ i. logIn (heldAt (outcome .logs) i)) n ⌝ }
 {
+    let logs = outcome.logs;
+    let signers = outcome.signers;
     let mut at = 0;
     let mut i = 0;
     while i < n {
-        at += put_correct(&mut text[at..], n, f, faulty, i, logs[i], numbers[i], slots);
+        at += put_correct(&mut text[at..], n, faulty, i, logs[i], signers[i]);
         i += 1;
     }
     at

@@ -21,7 +21,7 @@ use Rattle.text.specs.declared.Number.the-variants.{NoNumber, Value}
 use Rattle.text.proofs.Digits.{field-small}
 use Rattle.schedule.specs.Keys.{sendKey}
 use Rattle.schedule.specs.Sends.{Send, faultyBit, fits, fitting, messageText, rankIn, rankOf, sendAs, sendIn, sendOf, sendingAs}
-use Rattle.schedule.specs.declared.Header.{Header}
+use Rattle.header.specs.declared.Header.{Header}
 use Rattle.schedule.specs.declared.Sending.the-variants.{NoSend, Sent}
 
 -- ---- the three numbers of a send

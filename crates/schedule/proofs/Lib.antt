@@ -1,5 +1,3 @@
-pub mod Heads
 pub mod Fits
 pub mod Order
 pub mod Turns
-pub mod Examples

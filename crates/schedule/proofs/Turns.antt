@@ -13,13 +13,13 @@ use Rattle.text.specs.Lists.{listedAs}
 use Rattle.text.specs.declared.Kind.the-variants.{Entry}
 use Rattle.text.specs.declared.Listed.{Listed}
 use Rattle.schedule.specs.Forms.{formAfter, formOf, formSends, formTrays, found, isEnd, isTray, scheduleMost}
-use Rattle.schedule.specs.Header.{headedOf, headerSize}
+use Rattle.header.specs.Header.{headedOf, headerSize}
 use Rattle.schedule.specs.Keys.{endKey, trayKey}
 use Rattle.schedule.specs.Sends.{rankIn, sendOf}
 use Rattle.schedule.specs.declared.Form.the-variants.{Bad, Good}
-use Rattle.schedule.specs.declared.Headed.{Headed}
-use Rattle.schedule.specs.declared.Headed.the-variants.{BadAt, Read}
-use Rattle.schedule.specs.declared.Header.{Header}
+use Rattle.header.specs.declared.Headed.{Headed}
+use Rattle.header.specs.declared.Headed.the-variants.{BadAt, Read}
+use Rattle.header.specs.declared.Header.{Header}
 
 -- ---- the end, and trays
 

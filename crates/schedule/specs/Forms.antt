@@ -9,11 +9,11 @@ use lib.ListN.{length, getD, drop}
 use Rattle.text.specs.Lines.{linesOf, keyed, listLine}
 use Rattle.text.specs.declared.Kind.the-variants.{Entry}
 use Rattle.schedule.specs.Keys.{trayKey, endKey}
-use Rattle.schedule.specs.Header.{headerSize, headedOf}
+use Rattle.header.specs.Header.{headerSize, headedOf}
 use Rattle.schedule.specs.Sends.{sendOf, rankIn}
-use Rattle.schedule.specs.declared.Header.{Header}
-use Rattle.schedule.specs.declared.Headed.{Headed}
-use Rattle.schedule.specs.declared.Headed.the-variants.{Read, BadAt}
+use Rattle.header.specs.declared.Header.{Header}
+use Rattle.header.specs.declared.Headed.{Headed}
+use Rattle.header.specs.declared.Headed.the-variants.{Read, BadAt}
 use Rattle.schedule.specs.declared.Form.{Form}
 use Rattle.schedule.specs.declared.Form.the-variants.{Good, Bad}
 

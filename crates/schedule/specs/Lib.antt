@@ -1,4 +1,3 @@
 pub mod Keys
-pub mod Header
 pub mod Sends
 pub mod Forms

@@ -16,7 +16,7 @@ use Rattle.text.specs.Hex.{hexOf}
 use Rattle.text.specs.declared.Number.{Number}
 use Rattle.text.specs.declared.Number.the-variants.{Value, NoNumber}
 use Rattle.schedule.specs.Keys.{sendKey}
-use Rattle.schedule.specs.declared.Header.{Header}
+use Rattle.header.specs.declared.Header.{Header}
 use Rattle.schedule.specs.declared.Sending.{Sending}
 use Rattle.schedule.specs.declared.Sending.the-variants.{Sent, NoSend}
 

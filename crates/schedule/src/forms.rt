@@ -3,15 +3,15 @@ ghost use mathlib.Core.Path.{_≡_};
 ghost use Prim.Native.Nat.{_+_, _≤_};
 ghost use Rattle.rules.specs.Sizes.{nodesMost};
 ghost use Rattle.text.specs.Lines.{linesOf};
-ghost use Rattle.schedule.specs.Header.{headerSize};
+ghost use Rattle.header.specs.Header.{headerSize};
 ghost use Rattle.schedule.specs.Forms.{formOf, formSends, formTrays, isEnd, isTray};
 use crate::Form;
-use crate::HEADER_SIZE;
-use crate::Headed;
-use crate::Header;
 use crate::SCHEDULE_MOST;
-use crate::heading::read_header;
 use crate::sends::send_rank;
+use header::HEADER_SIZE;
+use header::Headed;
+use header::Header;
+use header::read_header;
 use text::Kind;
 
 // `end=` empty.

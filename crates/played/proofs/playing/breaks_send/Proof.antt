@@ -8,7 +8,7 @@ use lib.ListN.{take}
 use Prim.Native.Nat.{_≤_}
 use Rattle.contents.specs.Contents.{messageFor}
 use Rattle.shown.specs.Shown.{breaks}
-use Rattle.played.proofs.Messages.{put-whole}
+use Rattle.inboxes.proofs.Messages.{put-whole}
 use borrow.Author.Needs.{needs}
 use Rattle.played.proofs.playing.breaks_send.Statement.{statement}
 use Rattle.played.proofs.playing.breaks_send.Tie as tie

@@ -7,12 +7,13 @@ use lib.ListN.{length}
 use Rattle.agreement.specs.Rule.{breaksRule}
 use Rattle.schedule.specs.declared.Sending.the-variants.{Sent}
 use Rattle.contents.specs.Contents.{sendsOf, sendingAt}
-use Rattle.played.specs.Standing.{standing}
-use Rattle.played.specs.Playing.{hallOf, breach}
-use Rattle.played.specs.declared.Standing.{Standing}
+use Rattle.standing.specs.Standing.{standing}
+use Rattle.standing.specs.Run.{hallOf}
+use Rattle.played.specs.Playing.{breach}
+use Rattle.standing.specs.declared.Standing.{Standing}
 use Rattle.contents.proofs.Found.{message-size}
 use Rattle.played.proofs.Sends.{sendAt, sent-numbers, never-none, send-fits, send-rounds, send-few}
-use Rattle.played.proofs.Standings.{starts, stands-there, nodes-above, nodes-most}
+use Rattle.standing.proofs.Standings.{starts, stands-there, nodes-above, nodes-most}
 use Rattle.played.proofs.Breaches.{left, at-first, breaks-here, breaks-later, none-left, rule-told, is-breach, is-played}
 use borrow.Author.Needs.{needs}
 use Rattle.played.proofs.playing.play_good.Statement.{statement}
@@ -46,6 +47,21 @@ numbers : (c : tie.After-known-told Inv-loop μ-loop)
 numbers c = sent-numbers (sendsOf (now (c .before .before .before .before .before .before .before .before .before .before .args .s)))
     (c .before .before .before .before .before .loop .k) _ _ _ (inside c) (sent c)
 
+-- where the run stands before its round
+stands : (c : tie.After-advance-to Inv-loop μ-loop)
+    → let a = c .before .before .before .before .before .before .before .before .before .before .before .args in
+    c .advance-to .result ≡ standing (hallOf (now (a .s)) (a .n) (a .f)) (c .before .before .round .given .0 .0)
+stands c =
+    let k = c .before in
+    let start = c .before .before .before .before .before .before .before .before .before .before .before in
+    let a = start .args in
+    let l = k .before .before .before .before .before .loop in
+    let q = numbers k in
+    c .advance-to .ensures
+    (record { form = start .pre; bits = k .before .before .before .before .before .before .before .before .faulty-mask .ensures; stands = l .inv .2 })
+    (omega (arith, q .0, l .inv .4 (k .before .before .before .before .loop-test .taken)))
+    (omega (arith, q .0, send-fits (now (a .s)) (a .n) (a .f) (start .pre) (l .k) (inside k) .round-most))
+
 -- what is answered of it is the rule's answer
 rule : (c : tie.After-breaks-send Inv-loop μ-loop)
     → let a = c .before .before .before .before .before .before .before .before .before .before .before .before .before .args in
@@ -54,7 +70,7 @@ rule : (c : tie.After-breaks-send Inv-loop μ-loop)
 rule c =
     let a = c .before .before .before .before .before .before .before .before .before .before .before .before .before .args in
     rule-told (now (a .s)) (a .n) (a .f) (c .before .before .before .before .before .before .before .before .before .before .before .before .before .pre) _ (c .before .before .before .before .before .before .before .before .before .before .before .faulty-mask .ensures) (c .before .before .before .before .before .before .before .before .loop .k) (inside (c .before .before .before)) _ _ _ (sent (c .before .before .before)) (c .before .before .advance-to .result)
-    (c .before .before .advance-to .ensures) _ (c .breaks-send .ensures)
+    (stands (c .before .before)) _ (c .breaks-send .ensures)
 
 faulty-mask-requires : tie.Need-faulty-mask-requires Inv-loop μ-loop
 faulty-mask-requires c κs = search needs
@@ -80,23 +96,7 @@ enum-known-round : tie.Need-enum-known-round Inv-loop μ-loop
 enum-known-round c = search needs
 
 advance-to-requires : tie.Need-advance-to-requires Inv-loop μ-loop
-advance-to-requires c κs =
-    let a = c .before .before .before .before .before .before .before .before .before .before .args in
-    let l = c .before .before .before .before .before .loop in
-    let q = numbers c in (
-      record {
-        form = c .before .before .before .before .before .before .before .before .before .before .pre;
-        bits = c .before .before .before .before .before .before .before .before .faulty-mask .ensures;
-        stands = l .inv .2;
-      },
-      omega (arith, q .0, l .inv .4 (c .before .before .before .before .loop-test .taken)),
-      omega (
-        arith,
-        q .0,
-        send-fits (now (a .s)) (a .n) (a .f)
-            (c .before .before .before .before .before .before .before .before .before .before .pre) (l .k) (inside c) .round-most,
-      ),
-    )
+advance-to-requires c κs = search needs
 
 breaks-send-requires : tie.Need-breaks-send-requires Inv-loop μ-loop
 breaks-send-requires c κs =
@@ -166,7 +166,7 @@ loop-again c =
     let l = c .before .before .before .before .before .before .before .before .before .loop in
     let q = numbers (c .before .before .before .before) in
     let hall = hallOf (now (a .s)) (a .n) (a .f) in
-    let e = c .before .before .before .advance-to .ensures in
+    let e = stands (c .before .before .before) in
     let z = ap (λ (x : Standing). x .next) e in (
       omega arith,
       l .inv .1 ∙ breaks-later (now (a .s)) (a .n) (a .f) (l .k) (inside (c .before .before .before .before)) _ (rule (c .before)) (c .if1 .left),
@@ -202,19 +202,17 @@ add-advance-to c =
     }
 
 advance-to-requires-2 : tie.Need-advance-to-requires-2 Inv-loop μ-loop
-advance-to-requires-2 c κs =
-    let l = c .before .loop in (
-      record { form = c .before .before .before .before .before .before .pre; bits = c .before .before .before .before .faulty-mask .ensures; stands = l .inv .2 },
-      omega (arith, l .inv .3),
-      omega arith,
-    )
+advance-to-requires-2 c κs = search needs
 
 returns-3 : tie.Need-returns-3 Inv-loop μ-loop
 returns-3 c =
     let a = c .before .before .before .before .before .before .before .before .args in
     let l = c .before .before .before .loop in
+    let last = c .before .advance-to2 .ensures
+    (record { form = c .before .before .before .before .before .before .before .before .pre; bits = c .before .before .before .before .before .before .faulty-mask .ensures; stands = l .inv .2 })
+    (omega (arith, l .inv .3)) (omega arith) in
     is-played (now (a .s)) (a .n) (a .f) _ (l .inv .1 ∙ none-left (now (a .s)) (a .n) (a .f) (l .k)
-    (omega (arith, c .before .before .before .before .before .send-count .ensures))) (c .before .advance-to2 .ensures)
+    (omega (arith, c .before .before .before .before .before .send-count .ensures))) last
 
 pub play-good-spec : {M : Type 1} → statement M
 play-good-spec =

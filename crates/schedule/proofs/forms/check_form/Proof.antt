@@ -6,8 +6,8 @@ use borrow.Author.Needs.{needs}
 use Rattle.rules.proofs.Sizes.{sized-most}
 use Rattle.text.specs.Lines.{linesOf}
 use Rattle.schedule.specs.Forms.{formTrays}
-use Rattle.schedule.specs.Header.{headerSize}
-use Rattle.schedule.proofs.Heads.{header-told}
+use Rattle.header.specs.Header.{headerSize}
+use Rattle.header.proofs.Heads.{header-told}
 use Rattle.schedule.proofs.Turns.{form-bad, form-good, form-long}
 use Rattle.schedule.proofs.forms.check_form.Statement.{statement}
 use Rattle.schedule.proofs.forms.check_form.Tie as tie

@@ -8,7 +8,7 @@ use lib.ListN.{drop, length}
 use Rattle.text.specs.Lines.{linesOf}
 use Rattle.text.proofs.Cuts.{Turn, line-last, line-not-last, lines-past, turn}
 use Rattle.schedule.specs.Forms.{formSends}
-use Rattle.schedule.specs.Header.{headerSize}
+use Rattle.header.specs.Header.{headerSize}
 use Rattle.schedule.proofs.Turns.{sends-bad, sends-end, sends-go, sends-good, sends-more}
 use Rattle.schedule.proofs.forms.form_sends.Statement.{statement}
 use Rattle.schedule.proofs.forms.form_sends.Tie as tie

@@ -12,7 +12,7 @@ use Rattle.laws.proofs.Lent.{rest-of}
 use Rattle.text.specs.Lines.{linesOf}
 use Rattle.text.proofs.Cuts.{line-fits, line-here, lines-after}
 use Rattle.schedule.specs.Forms.{formSends, formTrays}
-use Rattle.schedule.specs.Header.{headerSize}
+use Rattle.header.specs.Header.{headerSize}
 use Rattle.schedule.specs.Sends.{fits}
 use Rattle.schedule.proofs.Turns.{trays-bad, trays-end, trays-go}
 use Rattle.schedule.proofs.forms.form_trays.Statement.{statement}

@@ -1,0 +1,4 @@
+pub mod Document
+pub mod Forms
+pub mod Contents
+pub mod Claim
