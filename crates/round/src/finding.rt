@@ -6,11 +6,12 @@ use crate::keeping::is_new;
 use crate::keeping::is_wanted;
 use crate::keeping::keep;
 use node::Kept;
+use node::Node;
 use wire::Place;
 use wire::Record;
 
 // Before the first vote: what was kept, and no masks.
-pub fn begin(kept: [Kept; rules::NODES_MOST]) -> [Found; rules::NODES_MOST]
+pub fn begin(kept: [Kept; Node::NODES_MOST]) -> [Found; Node::NODES_MOST]
     ensures { λ r. ⌜ Begin kept r ⌝ }
 {
     let nothing = Found {
@@ -18,9 +19,9 @@ pub fn begin(kept: [Kept; rules::NODES_MOST]) -> [Found; rules::NODES_MOST]
         first: 0,
         second: 0,
     };
-    let mut found = [nothing; rules::NODES_MOST];
+    let mut found = [nothing; Node::NODES_MOST];
     let mut p = 0;
-    while p < rules::NODES_MOST {
+    while p < Node::NODES_MOST {
         found[p] = Found {
             kept: kept[p],
             first: 0,
@@ -39,7 +40,7 @@ fn is_heard(me: usize, sender: usize, unreadable: u16) -> bool
         return false;
     }
     // A mask has no bit 16 or above.
-    if rules::NODES_MOST <= sender {
+    if Node::NODES_MOST <= sender {
         return true;
     }
     (unreadable >> sender) % 2 == 0
@@ -50,10 +51,10 @@ pub fn take_inbox(
     n: usize,
     me: usize,
     round: usize,
-    found: [Found; rules::NODES_MOST],
+    found: [Found; Node::NODES_MOST],
     inbox: &[u8],
     unreadable: u16,
-) -> [Found; rules::NODES_MOST]
+) -> [Found; Node::NODES_MOST]
     ensures { λ r. ⌜ TakeInbox n me round found (now (inbox .entry)) unreadable r ⌝ }
 {
     let mut after = found;
