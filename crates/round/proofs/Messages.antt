@@ -16,7 +16,7 @@ use Rattle.wire.specs.Message.{before, votesOf, silent}
 use Rattle.wire.proofs.Readings.{Told}
 use Rattle.wire.proofs.Messages.{left, all-left, voteThere, next-left, still-heard, none-there, at-last}
 use Rattle.round.specs.Found.{votesIn, Take}
-use Rattle.round.specs.declared.Found.{Found}
+use Rattle.keeping.specs.declared.Found.{Found}
 use Rattle.round.proofs.Takes.{take-none, take-join}
 
 -- ---- one vote before the others

@@ -18,8 +18,9 @@ use Rattle.rules.proofs.Newly.{newly-snoc}
 use Rattle.rules.proofs.Gathered.{each-at, each-set}
 use Rattle.node.specs.Batches.{batchOf}
 use Rattle.node.specs.declared.Batch.{Batch as BatchHeld}
-use Rattle.round.specs.Found.{foundFor, foundBy, acceptedBy, wanted, Keep, Take}
-use Rattle.round.specs.declared.Found.{Found}
+use Rattle.keeping.specs.Keeping.{foundFor, acceptedBy, wanted, Keep}
+use Rattle.round.specs.Found.{foundBy, Take}
+use Rattle.keeping.specs.declared.Found.{Found}
 
 module _ (r : ℕ) where
   pub take-none : (a : List Found) → Take r a a []

@@ -1,10 +1,10 @@
 // The votes of an inbox, taken up one after the other.
-ghost use mathlib.Core.Path.{_≡_};
-ghost use Rattle.round.specs.Found.{Begin, TakeInbox, takesUp};
-use crate::Found;
-use crate::keeping::is_new;
-use crate::keeping::is_wanted;
-use crate::keeping::keep;
+ghost use Rattle.round.specs.Found.{Begin, TakeInbox};
+use keeping::Found;
+use keeping::is_heard;
+use keeping::is_new;
+use keeping::is_wanted;
+use keeping::keep;
 use node::Kept;
 use node::Node;
 use wire::Place;
@@ -30,20 +30,6 @@ pub fn begin(kept: [Kept; Node::NODES_MOST]) -> [Found; Node::NODES_MOST]
         p += 1;
     }
     found
-}
-
-// Whether a sender's message is taken up: it is another's, and readable.
-fn is_heard(me: usize, sender: usize, unreadable: u16) -> bool
-    ensures { λ r. ⌜ r ≡ takesUp me sender unreadable ⌝ }
-{
-    if sender == me {
-        return false;
-    }
-    // A mask has no bit 16 or above.
-    if Node::NODES_MOST <= sender {
-        return true;
-    }
-    (unreadable >> sender) % 2 == 0
 }
 
 // The votes of every other sender whose message is readable, by sender.

@@ -32,8 +32,9 @@ use Rattle.node.specs.State.{keptAt, keptFor, soundNode}
 use Rattle.node.specs.declared.Kept.{Kept}
 use Rattle.node.specs.declared.Node.{Node}
 use Rattle.node.proofs.Sound.{sound-right, sound-is-of, sound-sizes}
-use Rattle.round.specs.Found.{foundFor, foundBy, Begin, TakeInbox}
-use Rattle.round.specs.declared.Found.{Found}
+use Rattle.keeping.specs.Keeping.{foundFor}
+use Rattle.round.specs.Found.{foundBy, Begin, TakeInbox}
+use Rattle.keeping.specs.declared.Found.{Found}
 use Rattle.passing.specs.Passing.{AllHeld, EachHeld, foundAt, passedFor, passedBelow, AllSayable, PassOn}
 use Rattle.passing.proofs.Outboxes.{new-passed, found-held, not-passed, is-passed}
 use Rattle.step.specs.Step.{takenBy, passedBy, steppedNode, keptIn, primariesIn, inRounds, stepNumber, refusedStep, Step}

@@ -19,7 +19,7 @@ use Rattle.node.specs.State.{keptFor, soundNode}
 use Rattle.node.specs.declared.Kept.{Kept}
 use Rattle.node.specs.declared.Node.{Node}
 use Rattle.round.specs.Found.{heardFrom}
-use Rattle.round.specs.declared.Found.{Found}
+use Rattle.keeping.specs.declared.Found.{Found}
 use Rattle.step.specs.declared.Stepped.{Stepped}
 
 -- the votes that the step takes up

@@ -7,9 +7,9 @@ ghost use Rattle.wire.specs.Inbox.{wellCut, unreadableSenders};
 ghost use Rattle.node.specs.State.{soundNode};
 ghost use Rattle.step.specs.Step.{Step, inRounds, keptIn, primariesIn, refusedStep};
 use crate::Stepped;
+use keeping::Found;
 use node::Kept;
 use node::Node;
-use round::Found;
 use wire::Written;
 
 fn refused(number: u8, node: Node) -> Stepped
