@@ -1,18 +1,22 @@
 -- Each answer of a close, by the row that gives it; and what is gathered, joined with the old log, is the new log.
-use Prim.Native.Nat.{ℕ, suc, _+_, _≤_, _<_}
+use Prim.Native.Nat.{ℕ, zero, suc, _+_, _≤_, _<_}
 use mathlib.Core.Path.{_≡_, refl, sym, ap, _∙_}
 use mathlib.Core.Bool.{true, false}
 use mathlib.Core.List.{List, []}
 use native.Mathlib.Omega.{arith}
-use borrow.Author.Tests.{le-leb, lt-leb}
+use borrow.Author.Tests.{le-leb, lt-leb, leb-true}
+use lib.Dec.{leb}
 use lib.ListN.{length}
 use lib.Seq.{length-take-le}
 use Rattle.laws.specs.Order.{ascends}
 use Rattle.laws.specs.Parts.{onto}
+use Rattle.laws.proofs.Lent.{onto-length}
 use Rattle.rules.specs.Sizes.{logMost, fits, isLog}
+use Rattle.rules.specs.Refusals.{done, ifDone}
 use Rattle.rules.specs.Log.{join}
 use Rattle.rules.proofs.Sizes.{log-most, log-ascends}
 use Rattle.rules.proofs.Joins.{joined-ascends, joined-first}
+use Rattle.rules.proofs.Refusals.{row-passed}
 use Rattle.node.specs.State.{soundNode}
 use Rattle.node.specs.declared.Node.{Node}
 use Rattle.node.proofs.Sound.{sound-sizes}
@@ -85,3 +89,23 @@ module _ (s : Node) (old output : List ℕ) where
           closes room after e =
               let n : closeNumber s old (length output) ≡ 0 = simp (sound, le-leb _ _ over, log, counted, le-leb _ _ most, le-leb _ _ room) in
               record { number = sym n; size = simp n (sym counted); output-is = e ∙ ap (λ (w : List ℕ). onto w output) new ∙ simp n }
+
+-- ---- the output keeps its length
+
+module _ (s : Node) (old output : List ℕ) where
+  -- a close that is done has room
+  has-room : closeNumber s old (length output) ≡ done → length (newLogOf s old) ≤ length output
+  unfolding closeNumber
+  has-room d =
+      let a = row-passed 1 (soundNode s) _ d in
+      let b = row-passed 2 (leb (s .f + 2) (s .phase)) _ (a .1) in
+      let c = row-passed 6 (isLog old) _ (b .1) in
+      let e = row-passed 7 (fits (newLogOf s old)) _ (c .1) in
+      leb-true _ _ (row-passed 8 (leb (length (newLogOf s old)) (length output)) done (e .1) .0)
+
+  pub close-length : (r : Closed) (after : List ℕ) → Close s old output r after → length after ≡ length output
+  close-length r after p = ap length (p .output-is) ∙ go (closeNumber s old (length output)) refl
+    where
+      go : (k : ℕ) → closeNumber s old (length output) ≡ k → length (ifDone k (onto (newLogOf s old) output) output) ≡ length output
+      go zero e = onto-length (newLogOf s old) output (has-room e)
+      go (suc k) e = refl

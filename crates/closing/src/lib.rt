@@ -1,5 +1,9 @@
 // The close: the new log is the old log joined with all n decisions.
 ghost use mathlib.Core.Path.{_≡_};
+ghost use mathlib.Core.Bool.{true};
+ghost use Prim.Native.Nat.{_+_, _≤_};
+ghost use Rattle.rules.specs.Sizes.{isLog};
+ghost use Rattle.node.specs.State.{soundNode};
 ghost use Rattle.closing.specs.Close.{Close, refusedClose};
 
 mod decisions; // decisions.rt: the entries of all n decisions, gathered once
@@ -23,19 +27,11 @@ fn refused(number: u8) -> Closed
     Closed { number, length: 0 }
 }
 
-// The old log joined with all n decisions, written into the output.
-pub fn close(node: Node, old: &[u64], output: &mut [u64]) -> Closed
+// The close of a sound node whose rounds are over, with an old log that is one.
+fn join_all(node: Node, old: &[u64], output: &mut [u64]) -> Closed
+    requires { ⌜ (soundNode node ≡ true) × (node .f + 2 ≤ node .phase) × (isLog (now old) ≡ true) ⌝ }
     ensures { λ r. ⌜ Close node (now (old .entry)) (now (output .entry)) r (now (output .exit)) ⌝ }
 {
-    if !node::is_sound(node) {
-        return refused(2);
-    }
-    if node.phase < node.f + 2 {
-        return refused(3);
-    }
-    if !is_log(old) {
-        return refused(7);
-    }
     let gathered = decisions::gather(node);
     let count = gathered.count;
     let entries = gathered.entries;
@@ -49,4 +45,20 @@ pub fn close(node: Node, old: &[u64], output: &mut [u64]) -> Closed
     }
     merging::merge(old, new, output);
     Closed { number: 0, length }
+}
+
+// The old log joined with all n decisions, written into the output.
+pub fn close(node: Node, old: &[u64], output: &mut [u64]) -> Closed
+    ensures { λ r. ⌜ Close node (now (old .entry)) (now (output .entry)) r (now (output .exit)) ⌝ }
+{
+    if !node::is_sound(node) {
+        return refused(2);
+    }
+    if node.phase < node.f + 2 {
+        return refused(3);
+    }
+    if !is_log(old) {
+        return refused(7);
+    }
+    join_all(node, old, output)
 }

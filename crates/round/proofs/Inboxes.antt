@@ -17,8 +17,9 @@ use Rattle.rules.specs.Step.{others, gather, takenUp}
 use Rattle.wire.specs.Message.{votesOf, silent}
 use Rattle.wire.specs.Inbox.{placeOf, endAt, messageOf, isUnreadable, unreadableSenders}
 use Rattle.wire.proofs.Cuts.{Told, too-short, own-place}
-use Rattle.round.specs.Found.{votesIn, heardFrom, takesUp, Take, TakeInbox}
-use Rattle.round.specs.declared.Found.{Found}
+use Rattle.keeping.specs.Keeping.{takesUp}
+use Rattle.round.specs.Found.{votesIn, heardFrom, Take, TakeInbox}
+use Rattle.keeping.specs.declared.Found.{Found}
 use Rattle.round.proofs.Takes.{take-none, take-join}
 use Rattle.round.proofs.Messages.{TakeMessage}
 

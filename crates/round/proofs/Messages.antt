@@ -1,7 +1,6 @@
 -- A message, record by record: what takes up the votes that are left takes up all, once those before are taken up.
 use Prim.Native.Nat.{ℕ, _+_, _-_, _≤_, _<_}
 use mathlib.Core.Path.{_≡_, refl, sym, ap, subst, _∙_}
-use mathlib.Core.Logic.{⊎-elim}
 use mathlib.Core.Bool.{Bool, true, false, not, cond}
 use mathlib.Core.List.{List, [], _∷_, _++_}
 use mathlib.Core.Option.{Option, none, some}
@@ -16,7 +15,7 @@ use Rattle.wire.specs.Message.{before, votesOf, silent}
 use Rattle.wire.proofs.Readings.{Told}
 use Rattle.wire.proofs.Messages.{left, all-left, voteThere, next-left, still-heard, none-there, at-last}
 use Rattle.round.specs.Found.{votesIn, Take}
-use Rattle.round.specs.declared.Found.{Found}
+use Rattle.keeping.specs.declared.Found.{Found}
 use Rattle.round.proofs.Takes.{take-none, take-join}
 
 -- ---- one vote before the others

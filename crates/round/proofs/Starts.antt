@@ -15,8 +15,9 @@ use Rattle.rules.proofs.Gathered.{each-length, each-at}
 use Rattle.node.specs.Batches.{keptAs}
 use Rattle.node.specs.State.{keptAt}
 use Rattle.node.specs.declared.Kept.{Kept}
-use Rattle.round.specs.Found.{foundFor, foundBy, Begin}
-use Rattle.round.specs.declared.Found.{Found}
+use Rattle.keeping.specs.Keeping.{foundFor}
+use Rattle.round.specs.Found.{foundBy, Begin}
+use Rattle.keeping.specs.declared.Found.{Found}
 
 -- what is kept, and no masks
 abbrev pub bare : Kept → Found

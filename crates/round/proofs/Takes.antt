@@ -5,12 +5,10 @@ use mathlib.Core.Path.{_≡_, refl, sym, ap, subst, _∙_}
 use mathlib.Core.Logic.{_≢_}
 use mathlib.Core.Bool.{Bool, true, false, not, cond, _&&_}
 use mathlib.Core.List.{List, [], _∷_, _++_, append-nil, append-assoc}
-use borrow.Author.Tests.{eq-eqb, ne-eqb, eqb-true, eqb-false, not-true}
-use lib.Count.{ones}
-use lib.Dec.{eqb, ltb, leb}
+use borrow.Author.Tests.{ne-eqb, eqb-true, eqb-false, not-true}
+use lib.Dec.{eqb, ltb}
 use lib.ListN.{length, getD, set}
 use lib.Seq.{set-getD}
-use Rattle.laws.specs.Masks.{bit}
 use Rattle.laws.specs.Members.{among}
 use Rattle.laws.proofs.Tests.{clash, both}
 use Rattle.rules.specs.Sizes.{nodesMost}
@@ -20,8 +18,9 @@ use Rattle.rules.proofs.Newly.{newly-snoc}
 use Rattle.rules.proofs.Gathered.{each-at, each-set}
 use Rattle.node.specs.Batches.{batchOf}
 use Rattle.node.specs.declared.Batch.{Batch as BatchHeld}
-use Rattle.round.specs.Found.{foundFor, foundBy, wanted, Keep, Take}
-use Rattle.round.specs.declared.Found.{Found}
+use Rattle.keeping.specs.Keeping.{foundFor, acceptedBy, wanted, Keep}
+use Rattle.round.specs.Found.{foundBy, Take}
+use Rattle.keeping.specs.declared.Found.{Found}
 
 module _ (r : ℕ) where
   pub take-none : (a : List Found) → Take r a a []
@@ -48,17 +47,15 @@ module _ (me r : ℕ) (kept : List Batch) (v : Vote) where
   unwanted : eqb (v .primary) me ≡ false → wanted me r (v .primary) (v .mask) (length kept) ≡ false → keeps keptMost r (v .primary) kept v ≡ false
   unfolding keeps accepted shows
   unwanted e h =
-      simp (eq-eqb (v .primary) (v .primary) refl)
-      (neither-way (eqb (bit (v .mask) (v .primary)) 1 && leb r (ones (v .mask))) (not (among (v .batch) kept)) (ltb (length kept) keptMost) (simp e at h))
+      neither-way (acceptedBy r (v .primary) (v .mask)) (not (among (v .batch) kept)) (ltb (length kept) keptMost) (simp e at h)
 
   is-wanted : wanted me r (v .primary) (v .mask) (length kept) ≡ true
       → (eqb (v .primary) me ≡ false) × ((not (among (v .batch) kept) && ltb (length kept) keptMost) ≡ keeps keptMost r (v .primary) kept v)
   unfolding keeps accepted shows
   is-wanted h =
       let a = both _ _ h in
-      let b = both (ltb (length kept) keptMost) (eqb (bit (v .mask) (v .primary)) 1 && leb r (ones (v .mask))) (a .1) in
-      let d = both (eqb (bit (v .mask) (v .primary)) 1) (leb r (ones (v .mask))) (b .1) in
-      (not-true (eqb (v .primary) me) (a .0), simp (eq-eqb (v .primary) (v .primary) refl, d .0, d .1))
+      let b = both (ltb (length kept) keptMost) (acceptedBy r (v .primary) (v .mask)) (a .1) in
+      (not-true (eqb (v .primary) me) (a .0), ap (λ (t : Bool). t && (not (among (v .batch) kept) && ltb (length kept) keptMost)) (sym (b .1)))
 
 -- ---- one vote more
 

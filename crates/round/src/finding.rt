@@ -1,16 +1,17 @@
 // The votes of an inbox, taken up one after the other.
-ghost use mathlib.Core.Path.{_≡_};
-ghost use Rattle.round.specs.Found.{Begin, TakeInbox, takesUp};
-use crate::Found;
-use crate::keeping::is_new;
-use crate::keeping::is_wanted;
-use crate::keeping::keep;
+ghost use Rattle.round.specs.Found.{Begin, TakeInbox};
+use keeping::Found;
+use keeping::is_heard;
+use keeping::is_new;
+use keeping::is_wanted;
+use keeping::keep;
 use node::Kept;
+use node::Node;
 use wire::Place;
 use wire::Record;
 
 // Before the first vote: what was kept, and no masks.
-pub fn begin(kept: [Kept; rules::NODES_MOST]) -> [Found; rules::NODES_MOST]
+pub fn begin(kept: [Kept; Node::NODES_MOST]) -> [Found; Node::NODES_MOST]
     ensures { λ r. ⌜ Begin kept r ⌝ }
 {
     let nothing = Found {
@@ -18,9 +19,9 @@ pub fn begin(kept: [Kept; rules::NODES_MOST]) -> [Found; rules::NODES_MOST]
         first: 0,
         second: 0,
     };
-    let mut found = [nothing; rules::NODES_MOST];
+    let mut found = [nothing; Node::NODES_MOST];
     let mut p = 0;
-    while p < rules::NODES_MOST {
+    while p < Node::NODES_MOST {
         found[p] = Found {
             kept: kept[p],
             first: 0,
@@ -31,29 +32,15 @@ pub fn begin(kept: [Kept; rules::NODES_MOST]) -> [Found; rules::NODES_MOST]
     found
 }
 
-// Whether a sender's message is taken up: it is another's, and readable.
-fn is_heard(me: usize, sender: usize, unreadable: u16) -> bool
-    ensures { λ r. ⌜ r ≡ takesUp me sender unreadable ⌝ }
-{
-    if sender == me {
-        return false;
-    }
-    // A mask has no bit 16 or above.
-    if rules::NODES_MOST <= sender {
-        return true;
-    }
-    (unreadable >> sender) % 2 == 0
-}
-
 // The votes of every other sender whose message is readable, by sender.
 pub fn take_inbox(
     n: usize,
     me: usize,
     round: usize,
-    found: [Found; rules::NODES_MOST],
+    found: [Found; Node::NODES_MOST],
     inbox: &[u8],
     unreadable: u16,
-) -> [Found; rules::NODES_MOST]
+) -> [Found; Node::NODES_MOST]
     ensures { λ r. ⌜ TakeInbox n me round found (now (inbox .entry)) unreadable r ⌝ }
 {
     let mut after = found;

@@ -1,4 +1,3 @@
-pub mod Outboxes
 pub mod PassedVotes
 pub mod Steps
 pub mod Determined

@@ -25,18 +25,21 @@ use Rattle.rules.proofs.Refusals.{row-passed}
 use Rattle.wire.specs.Message.{messageBytes}
 use Rattle.wire.specs.Inbox.{wellCut, unreadableSenders, inboxNumber, ReadInbox}
 use Rattle.wire.specs.declared.Heard.{Heard}
+use Rattle.wire.specs.declared.Written.{Written}
+use Rattle.wire.specs.declared.Written.the-variants.{Length, Refused}
 use Rattle.node.specs.Batches.{keptAs}
 use Rattle.node.specs.State.{keptAt, keptFor, soundNode}
 use Rattle.node.specs.declared.Kept.{Kept}
 use Rattle.node.specs.declared.Node.{Node}
 use Rattle.node.proofs.Sound.{sound-right, sound-is-of, sound-sizes}
-use Rattle.round.specs.Found.{foundFor, foundBy, Begin, TakeInbox}
-use Rattle.round.specs.declared.Found.{Found}
-use Rattle.step.specs.Passing.{AllHeld, EachHeld, foundAt, keptIn, passedFor, passedBelow, primariesIn, AllSayable}
-use Rattle.step.specs.Step.{takenBy, passedBy, steppedNode, inRounds, stepNumber, refusedStep, Step}
+use Rattle.keeping.specs.Keeping.{foundFor}
+use Rattle.round.specs.Found.{foundBy, Begin, TakeInbox}
+use Rattle.keeping.specs.declared.Found.{Found}
+use Rattle.passing.specs.Passing.{AllHeld, EachHeld, foundAt, passedFor, passedBelow, AllSayable, PassOn}
+use Rattle.passing.proofs.Outboxes.{new-passed, found-held, not-passed, is-passed}
+use Rattle.step.specs.Step.{takenBy, passedBy, steppedNode, keptIn, primariesIn, inRounds, stepNumber, refusedStep, Step}
 use Rattle.step.specs.declared.Stepped.{Stepped}
 use Rattle.step.proofs.PassedVotes.{kept-few, passed-by-sayable, newFor, new-of, kept-keepable}
-use Rattle.step.proofs.Outboxes.{new-passed, found-held}
 
 -- ---- the primaries of whom something is passed on
 
@@ -115,19 +118,36 @@ module _ (s : Node) (inbox out : List ℕ) where
       ill-cut w = record { number = simp (h, r, w); size = simp (h, r, w); unreadable = simp (h, r, w); node = simp (h, r, w); outbox-is = simp (h, r, w) }
 
       module _ (w : wellCut (s .n) inbox ≡ true) where
-        pub no-room : length out < length (messageBytes (passedBy s inbox)) → Step s inbox out (refusedStep 9 s) out
-        unfolding stepNumber
-        no-room l =
-            let t = lt-leb (length (messageBytes (passedBy s inbox))) (length out) l in
-            record { number = simp (h, r, w, t); size = simp (h, r, w, t); unreadable = simp (h, r, w, t); node = simp (h, r, w, t); outbox-is = simp (h, r, w, t) }
+        module _ (vs : List Vote) (e : vs ≡ passedBy s inbox) (written : Written) (after : List ℕ) (p : PassOn vs out written after) where
+          passed : PassOn (passedBy s inbox) out written after
+          passed = subst (λ (us : List Vote). PassOn us out written after) e p
 
-        pub is-stepped : (answer : Stepped) (after : List ℕ) → length (messageBytes (passedBy s inbox)) ≤ length out → answer .number ≡ 0
-            → answer .length ≡ length (messageBytes (passedBy s inbox)) → answer .unreadable ≡ unreadableSenders (s .n) (s .me) inbox
-            → answer .node ≡ steppedNode s inbox → after ≡ onto (messageBytes (passedBy s inbox)) out → Step s inbox out answer after
-        unfolding stepNumber
-        is-stepped answer after l a b u v x =
-            let t = le-leb (length (messageBytes (passedBy s inbox))) (length out) l in
-            record { number = simp (h, r, w, t) a; size = simp (h, r, w, t) b; unreadable = simp (h, r, w, t) u; node = simp (h, r, w, t) v; outbox-is = simp (h, r, w, t) x }
+          pub no-room : (k : ℕ) → written ≡ Refused k → (answer : Stepped) → answer ≡ refusedStep 9 s → Step s inbox out answer after
+          unfolding stepNumber
+          no-room k q answer a =
+              let f = not-passed (passedBy s inbox) out written after passed k q in
+              let t = lt-leb (length (messageBytes (passedBy s inbox))) (length out) (f .0) in
+              subst (λ (x : Stepped). Step s inbox out x after) (sym a) (record {
+                number = simp (h, r, w, t);
+                size = simp (h, r, w, t);
+                unreadable = simp (h, r, w, t);
+                node = simp (h, r, w, t);
+                outbox-is = simp (h, r, w, t) (f .1);
+              })
+
+          pub is-stepped : (k : ℕ) → written ≡ Length k → (answer : Stepped) → answer .number ≡ 0 → answer .length ≡ k
+              → answer .unreadable ≡ unreadableSenders (s .n) (s .me) inbox → answer .node ≡ steppedNode s inbox → Step s inbox out answer after
+          unfolding stepNumber
+          is-stepped k q answer a b u v =
+              let f = is-passed (passedBy s inbox) out written after passed k q in
+              let t = le-leb (length (messageBytes (passedBy s inbox))) (length out) (f .0) in
+              record {
+                number = simp (h, r, w, t) a;
+                size = simp (h, r, w, t) (b ∙ f .1);
+                unreadable = simp (h, r, w, t) u;
+                node = simp (h, r, w, t) v;
+                outbox-is = simp (h, r, w, t) (f .2);
+              }
 
   -- what a step that is done has found
   pub record CanStep (room : ℕ) : Type 0 where
@@ -160,7 +180,6 @@ pub record Passes (s : Node) (inbox : List ℕ) (found : List Found) (m : ℕ) :
   pub most : m ≤ nodesMost
   pub held : EachHeld found
   pub says : passedBelow (s .me) (s .kept) found m ≡ passedBy s inbox
-  pub size : length (messageBytes (passedBelow (s .me) (s .kept) found m)) ≡ length (messageBytes (passedBy s inbox))
   pub sayable : AllSayable (s .n) (passedBelow (s .me) (s .kept) found m)
 
 module _ (s : Node) (inbox : List ℕ) (h : soundNode s ≡ true) where
@@ -222,7 +241,6 @@ module _ (s : Node) (inbox : List ℕ) (h : soundNode s ≡ true) where
           most = most;
           held = each-held;
           says = says;
-          size = ap (λ (vs : List Vote). length (messageBytes vs)) says;
           sayable = subst (AllSayable (s .n)) (sym says) (passed-by-sayable s inbox (sound-sizes s h .node));
         }
 

@@ -3,9 +3,9 @@
 -- The phase goes up by one. The answer also has a mask of the senders whose message was unreadable, never the own bit."
 use Prim.Native.Nat.{ℕ, _+_}
 use mathlib.Core.Path.{_≡_}
-use mathlib.Core.Bool.{Bool, _&&_}
-use mathlib.Core.List.{List, [], _∷_}
-use lib.Dec.{leb}
+use mathlib.Core.Bool.{Bool, cond, _&&_}
+use mathlib.Core.List.{List, [], _∷_, map}
+use lib.Dec.{eqb, leb}
 use lib.ListN.{length}
 use Rattle.laws.specs.Parts.{onto}
 use Rattle.rules.specs.Sizes.{nodesMost}
@@ -16,8 +16,10 @@ use Rattle.wire.specs.Message.{messageBytes}
 use Rattle.wire.specs.Inbox.{wellCut, unreadableSenders}
 use Rattle.node.specs.Batches.{keptAs}
 use Rattle.node.specs.State.{keptFor, soundNode}
+use Rattle.node.specs.declared.Kept.{Kept}
 use Rattle.node.specs.declared.Node.{Node}
 use Rattle.round.specs.Found.{heardFrom}
+use Rattle.keeping.specs.declared.Found.{Found}
 use Rattle.step.specs.declared.Stepped.{Stepped}
 
 -- the votes that the step takes up
@@ -42,6 +44,14 @@ steppedNode s inbox = record {
   own = s .own;
   kept = gather (λ (p : ℕ). keptAs (keptBy s inbox p) ∷ []) nodesMost;
 }
+
+-- what is kept of what was found
+abbrev pub keptIn : List Found → List Kept
+keptIn found = map (λ (x : Found). x .kept) found
+
+-- in round r something is passed on for the primaries below this number: "In round f + 1 nothing is written."
+abbrev pub primariesIn : (n f r : ℕ) → ℕ
+primariesIn n f r = cond (eqb r (f + 1)) 0 n
 
 -- a phase that names a round
 abbrev pub inRounds : Node → Bool

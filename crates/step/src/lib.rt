@@ -1,5 +1,4 @@
 // The round step: the inbox is read by sender, then by record; what is newly kept is passed on.
-mod outbox;
 mod stepping;
 
 use node::Node;

@@ -5,14 +5,12 @@ ghost use Prim.Native.Nat.{_<_};
 ghost use Rattle.rules.specs.Sizes.{nodesMost};
 ghost use Rattle.wire.specs.Inbox.{wellCut, unreadableSenders};
 ghost use Rattle.node.specs.State.{soundNode};
-ghost use Rattle.step.specs.Passing.{keptIn, primariesIn};
-ghost use Rattle.step.specs.Step.{inRounds, refusedStep, Step};
+ghost use Rattle.step.specs.Step.{Step, inRounds, keptIn, primariesIn, refusedStep};
 use crate::Stepped;
-use crate::outbox::size_all;
-use crate::outbox::write_all;
+use keeping::Found;
 use node::Kept;
 use node::Node;
-use round::Found;
+use wire::Written;
 
 fn refused(number: u8, node: Node) -> Stepped
     ensures { λ r. ⌜ r ≡ refusedStep number node ⌝ }
@@ -37,14 +35,14 @@ fn primaries_in(n: usize, f: usize, phase: usize) -> usize
 }
 
 // The batches kept, of what was found.
-fn kept_in(found: [Found; rules::NODES_MOST]) -> [Kept; rules::NODES_MOST]
+fn kept_in(found: [Found; Node::NODES_MOST]) -> [Kept; Node::NODES_MOST]
     ensures { λ r. ⌜ r ≡ keptIn found ⌝ }
 {
     let first = found[0];
     let filler = first.kept;
-    let mut kept = [filler; rules::NODES_MOST];
+    let mut kept = [filler; Node::NODES_MOST];
     let mut p = 0;
-    while p < rules::NODES_MOST {
+    while p < Node::NODES_MOST {
         let its = found[p];
         let held = its.kept;
         kept[p] = held;
@@ -67,10 +65,9 @@ fn take(node: Node, inbox: &[u8], unreadable: u16, outbox: &mut [u8]) -> Stepped
     let begun = round::begin(before);
     let found = round::take_inbox(n, me, phase, begun, inbox, unreadable);
     let primaries = primaries_in(n, f, phase);
-    if outbox.len() < size_all(primaries, before, found) {
+    let Written::Length(length) = passing::pass_on(n, me, primaries, before, found, outbox) else {
         return refused(9, node);
-    }
-    let length = write_all(n, me, primaries, before, found, outbox);
+    };
     let kept = kept_in(found);
     let after = Node {
         n: n,

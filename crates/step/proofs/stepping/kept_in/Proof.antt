@@ -4,7 +4,7 @@ use mathlib.Core.Path.{_≡_, refl, _∙_}
 use native.Mathlib.Omega.{arith}
 use lib.ListN.{length, take, length-set}
 use Rattle.rules.specs.Sizes.{nodesMost}
-use Rattle.step.specs.Passing.{keptIn}
+use Rattle.step.specs.Step.{keptIn}
 use Rattle.step.proofs.Steps.{one-kept, all-kept}
 use borrow.Author.Needs.{needs}
 use Rattle.step.proofs.stepping.kept_in.Statement.{statement}
