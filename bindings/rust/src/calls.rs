@@ -1,8 +1,6 @@
 //! Each call of libhost.a as a safe function with its whole answer, refusals in numbers. A lent output is a `&mut` slice, so it overlaps no input.
 use crate::ffi::*;
-pub use crate::ffi::{
-    BatchPart, Closed, Heard, Made, MeterBar, Node, Opened, SigningCount, Stepped, ToldMessage, ToldRecord, ToldWritten, Tray,
-};
+pub use crate::ffi::{BatchPart, Closed, Heard, Made, MeterBar, Node, Opened, SigningCount, Stepped, ToldMessage, ToldRecord, ToldWritten, Tray};
 
 // Each call reads the slices that it is handed and writes the lent ones, within their lengths, and keeps no pointer: that is proved of libhost.a for any
 // values. The borrows give what the header asks of a host: the memory is there, and lent memory is nobody else's.

@@ -8,7 +8,7 @@ use super::run::{Held, Run};
 use super::sizes::every_hall;
 use super::states::{breaches, Scene};
 use super::steps::Step;
-use super::trays::{some_tray, unsound_tray, Place, Put, BATCH_CLAUSES};
+use super::trays::{some_tray, unsound_tray, Put, BATCH_CLAUSES};
 use crate::random::Random;
 use second::RawNode;
 
@@ -30,9 +30,7 @@ pub fn boundaries(run: &mut Run) -> Held {
     for sizes in every_hall() {
         for clause in BATCH_CLAUSES {
             let tray = unsound_tray(&mut random, clause);
-            let put = Put { tray, entry: *random.pick(&tray.entries) };
-            run.expect(clause.0, 2, &put)?;
-            run.expect(clause.0, 2, &Place(put))?;
+            run.expect(clause.0, 2, &Put { tray, entry: *random.pick(&tray.entries) })?;
             let node = RawNode { n: sizes.n, f: sizes.f, me: sizes.me, ..RawNode::default() };
             run.expect(clause.0, 2, &Open { node, tray, room: 132 })?;
         }
