@@ -24,7 +24,9 @@ pub fn message_at(inbox: &[u8], at: usize) -> Place
         return Place::Missing;
     }
     let start = at + LENGTH_SIZE;
-    let length = (wide(inbox[at]) + 256 * wide(inbox[at + 1])) as usize;
+    let low = wide(inbox[at]);
+    let high = wide(inbox[at + 1]);
+    let length = (low + 256 * high) as usize;
     if inbox.len() - start < length {
         return Place::Missing;
     }

@@ -51,8 +51,8 @@ returns-3 c =
     let a = c .before .before .before .before .before .before .before .before .args in
     is-missing (now (a .inbox)) (a .at) (omega arith)
 
-add-t7 : tie.Need-add-t7
-add-t7 c = search needs
+add-t9 : tie.Need-add-t9
+add-t9 c = search needs
 
 returns-4 : tie.Need-returns-4
 returns-4 c =
@@ -76,5 +76,5 @@ message-at-spec =
     add-length
     sub-if3
     returns-3
-    add-t7
+    add-t9
     returns-4)
