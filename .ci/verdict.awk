@@ -17,8 +17,8 @@ function told(    where, file, i, hit) {
     if (error == "") return
     where = place(error); file = where; sub(/:.*/, "", file)
     if (error ~ /: error: `[^`]*-spec`: `[^`]*` was not admitted \(/) ; # follows from an error above
-    else if (index(error, "has no `Need-") || error ~ /expected type `tie\.Need-[^`]*`, but this has type `tie\.Need-/)
-        wrong("at " where " a proof file no longer fits the code")
+    else if (error ~ /expected type `tie\.Need-[^`]*`, but this has type `tie\.Need-/) ; # a need more, or in another place: no fact
+    else if (index(error, "has no `Need-")) wrong("at " where " a proof file no longer fits the code")
     else {
         for (i = 1; i <= n; i++) if (kind[i] != "body" || own(fn[i], file)) { hit = 1; fails(i, where, index(error, "All of that holds, and ")) }
         if (!hit) wrong("a fact fails at " where ", in no function of this sheet")
