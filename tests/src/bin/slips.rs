@@ -85,7 +85,15 @@ fn called(program: &Path) -> io::Result<Option<String>> {
         None if !output.status.success() => {
             Err(io::Error::other(format!("{}: it ended without a difference", program.display())))
         }
-        _ => Ok(first.map(String::from)),
+        _ => Ok(first.map(unnumbered)),
+    }
+}
+
+/// Without the comparison's number, which moves with every comparison that is added before it.
+fn unnumbered(difference: &str) -> String {
+    match difference.split_once(": comparison ") {
+        Some((call, rest)) => format!("{call}: {}", rest.trim_start_matches(|c: char| c.is_ascii_digit() || c == ' ')),
+        None => difference.to_string(),
     }
 }
 
