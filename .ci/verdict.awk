@@ -8,6 +8,12 @@ function place(s) { sub(/: .*/, "", s); sub(/^.*\/must-fail\/[^\/]*\/[^\/]*\//, 
 # Whether a file of proofs/ is that of a function.
 function own(f, file) { sub(/^[^:]*::/, "", f); gsub(/::/, "/", f); return file == "proofs/" f "/Proof.antt" }
 
+# Whether an error is of the fit of a proof file and no fact: a need more, less or in another place, or a place before or after the one that is named.
+function unfitting(e) {
+    return e ~ /expected type `tie\.Need-[^`]*`, but this has type `tie\.Need-/ || e ~ /has no `Need-/ || e ~ /record `[^`]*\.Lts\.[^`]*` has no field/ ||
+        e ~ /expected type `[^` ]*\.?(tie|Lts)\.(Start|After-|At-|In-|Left-|Then|Else|Joined)/
+}
+
 function fails(i, where, numbers) {
     if (at[i] == "") { at[i] = where; in_numbers[i] = numbers }
 }
@@ -17,8 +23,7 @@ function told(    where, file, i, hit) {
     if (error == "") return
     where = place(error); file = where; sub(/:.*/, "", file)
     if (error ~ /: error: `[^`]*-spec`: `[^`]*` was not admitted \(/) ; # follows from an error above
-    else if (error ~ /expected type `tie\.Need-[^`]*`, but this has type `tie\.Need-/) ; # a need more, or in another place: no fact
-    else if (index(error, "has no `Need-")) wrong("at " where " a proof file no longer fits the code")
+    else if (unfitting(error)) wrong("at " where " a proof file no longer fits the code")
     else {
         for (i = 1; i <= n; i++) if (kind[i] != "body" || own(fn[i], file)) { hit = 1; fails(i, where, index(error, "All of that holds, and ")) }
         if (!hit) wrong("a fact fails at " where ", in no function of this sheet")

@@ -117,11 +117,12 @@ pub fn read_record(n: u64, part: &[u8]) -> RecordReading {
     }
 }
 
-/// The batch's bytes as that part of what was handed in; for an unreadable record and for a refusal the empty part at its start.
+/// The batch's bytes as that part of what was handed in.
 pub fn batch_bytes(n: u64, part: &[u8]) -> &[u8] {
     match nodes(n).map(|n| record::read(n, part)) {
         Ok(Some(vote)) => vote.batch,
-        _ => &part[..0],
+        // "that part is empty": a part of what was handed in all the same. Its place is not said; every part has a start.
+        Ok(None) | Err(_) => &part[..0],
     }
 }
 

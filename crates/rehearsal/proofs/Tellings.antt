@@ -34,7 +34,7 @@ use Rattle.report.specs.Report.{reportOf, textMost, Reports}
 use Rattle.report.proofs.Printing.{put-writes, writes-as}
 use Rattle.print.proofs.Lengths.{decimal-bound, line-length}
 use Rattle.report.proofs.Alike.{same-nodes}
-use Rattle.rehearsal.specs.Rehearsal.{badKey, badText, playedText, formText, rehearsalOf, Rehearse}
+use Rattle.rehearsal.specs.Rehearsal.{badKey, badText, playedText, formText, rehearsalOf, refusedRehearsal, Rehearse}
 use Rattle.rehearsal.specs.declared.Rehearsed.{Rehearsed}
 use Rattle.rehearsal.specs.Telling.{Tells}
 
@@ -140,10 +140,10 @@ module _ (s blank text output : List ℕ) (size : ℕ) (told : Tells (rehearsalO
       ap₂ (λ (k : ℕ) (t : List ℕ). take k t) size-is (told .writes .leaves (omega (arith, told .most)))
       ∙ take-append-seam (rehearsalOf s) (drop (length (rehearsalOf s)) blank)
 
-  pub too-short : length output < size → Rehearse s output (record { number = 9; length = 0 }) output
-  too-short l =
+  pub too-short : length output < size → (answer : Rehearsed) → answer ≡ refusedRehearsal 9 → Rehearse s output answer output
+  too-short l answer refused =
       let e = lt-leb (length (rehearsalOf s)) (length output) (omega (arith, size-is)) in
-      record { number = simp e; size = simp e; output-is = simp e }
+      subst (λ (a : Rehearsed). Rehearse s output a output) (sym refused) (record { number = simp e; size = simp e; output-is = simp e })
 
   pub written : size ≤ length output → (k : ℕ) (after : List ℕ) → Put (take size text) output k after → Rehearse s output (record { number = 0; length = k }) after
   written l k after p =

@@ -43,6 +43,9 @@ rehearsalOf s = formText s (formOf s)
 abbrev pub rehearsalNumber : (s : List ℕ) (room : ℕ) → ℕ
 rehearsalNumber s room = refuse 9 unless leb (length (rehearsalOf s)) room then done
 
+abbrev pub refusedRehearsal : ℕ → Rehearsed
+refusedRehearsal number = record { number = number; length = 0 }
+
 pub record Rehearse (s output : List ℕ) (answer : Rehearsed) (after : List ℕ) : Type 0 where
   pub number : answer .number ≡ rehearsalNumber s (length output)
   pub size : answer .length ≡ ifDone (rehearsalNumber s (length output)) (length (rehearsalOf s)) 0

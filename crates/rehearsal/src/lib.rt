@@ -2,7 +2,7 @@
 ghost use mathlib.Core.Path.{_≡_};
 ghost use mathlib.Core.Bool.{true};
 ghost use Rattle.rehearsal.specs.Claim.{RehearsalsAgree, RehearsalsGranted};
-ghost use Rattle.rehearsal.specs.Rehearsal.{Rehearse};
+ghost use Rattle.rehearsal.specs.Rehearsal.{Rehearse, refusedRehearsal};
 
 mod telling;
 
@@ -14,6 +14,13 @@ pub struct Rehearsed {
     pub length: usize,
 }
 
+// A refusal: the number, and nothing else of use.
+fn refused(number: u8) -> Rehearsed
+    ensures { λ r. ⌜ r ≡ refusedRehearsal number ⌝ }
+{
+    Rehearsed { number, length: 0 }
+}
+
 // The whole text over the front of the output.
 pub fn rehearsal(schedule: &[u8], output: &mut [u8]) -> Rehearsed
     ensures { λ r. ⌜ Rehearse (now (schedule .entry)) (now (output .entry)) r (now (output .exit)) ⌝ }
@@ -21,10 +28,7 @@ pub fn rehearsal(schedule: &[u8], output: &mut [u8]) -> Rehearsed
     let mut text = [0u8; TEXT_MOST];
     let size = telling::tell(schedule, &mut text);
     if output.len() < size {
-        return Rehearsed {
-            number: 9,
-            length: 0,
-        };
+        return refused(9);
     }
     let written = print::put_bytes(output, &text[..size]);
     Rehearsed {

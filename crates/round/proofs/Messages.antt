@@ -4,6 +4,10 @@ use mathlib.Core.Path.{_≡_, refl, sym, ap, subst, _∙_}
 use mathlib.Core.Bool.{Bool, true, false, not, cond}
 use mathlib.Core.List.{List, [], _∷_, _++_}
 use mathlib.Core.Option.{Option, none, some}
+use mathlib.Core.Logic.{⊎-elim}
+use native.Mathlib.Omega.{arith}
+use denote.Enum.Declared.{tagOf}
+use types.Run.{OneOf}
 use lib.Dec.{eqb}
 use lib.ListN.{length, drop}
 use Rattle.laws.proofs.Tests.{clash}
@@ -12,7 +16,11 @@ use Rattle.rules.specs.Vote.{Vote}
 use Rattle.rules.specs.Step.{others}
 use Rattle.wire.specs.Record.{batchOf, unreadable}
 use Rattle.wire.specs.Message.{before, votesOf, silent}
-use Rattle.wire.proofs.Readings.{Told}
+use Rattle.wire.specs.Reader.{ReadRecord}
+use Rattle.wire.specs.declared.Record.{Record}
+use Rattle.wire.specs.declared.Record.the-variants.{Vote as Read, Unreadable, Refused}
+use Rattle.wire.proofs.Record.{the-type}
+use Rattle.wire.proofs.Readings.{Told, unreadable-told, refused-told}
 use Rattle.wire.proofs.Messages.{left, all-left, voteThere, next-left, still-heard, none-there, at-last}
 use Rattle.round.specs.Found.{votesIn, Take}
 use Rattle.keeping.specs.declared.Found.{Found}
@@ -32,6 +40,12 @@ others-before me v none h = absurd (clash refl h)
 others-before me v (some vs) h = others-join me v vs
 
 -- ---- the loop over the records
+
+-- an answer of one of the two other kinds: the record is unreadable, or the number of nodes is refused
+pub not-read : (n : ℕ) (s : List ℕ) (answer : Record) → ReadRecord n s answer → OneOf (1 ∷ 2 ∷ []) (tagOf the-type answer) → sized n ≡ true → unreadable n s ≡ true
+not-read n s (Read p m k x) told kind nodes = absurd (⊎-elim (λ e. omega arith) (λ e. omega arith) kind)
+not-read n s Unreadable told kind nodes = unreadable-told n s told .1
+not-read n s Refused told kind nodes = absurd (clash nodes (refused-told n s told))
 
 -- the votes of a message that is readable are taken up
 pub record TakeMessage (n me r : ℕ) (before : List Found) (s : List ℕ) (after : List Found) : Type 0 where
@@ -67,19 +81,12 @@ module _ (n me r : ℕ) (s : List ℕ) (found : List Found) where
               (take-join r after next result (others me (v ∷ [])) (others me (votesIn rest)) t u));
         }
 
-    -- an unreadable record is in no readable message
-    pub no-vote : a < length s → unreadable n (drop a s) ≡ true → (b : ℕ) → Reached n me r s found after b
-    no-vote l u b = record { readable = λ nodes h. absurd (never nodes h); goes = λ nodes h. absurd (never nodes h) }
-      where
-        never : sized n ≡ true → silent (votesOf n s) ≡ false → ⊥
-        never nodes h = clash (ap silent (none-there n s a l u)) (here .readable nodes h)
+    -- a record that is not read as a vote is in no readable message
+    pub no-vote : a < length s → (sized n ≡ true → unreadable n (drop a s) ≡ true) → TakeMessage n me r found s after
+    no-vote l u = record { readable = λ nodes h. absurd (clash (ap silent (none-there n s a l (u nodes))) (here .readable nodes h)) }
 
     pub at-end : length s ≤ a → TakeMessage n me r found s after
     at-end l = record {
       readable = λ nodes h.
           here .goes nodes h after (subst (λ (o : Option (List Vote)). Take r after after (others me (votesIn o))) (sym (at-last n s a l)) (take-none r after));
     }
-
-  -- no record is read at a number of nodes that is refused
-  pub no-nodes : (after : List Found) (b : ℕ) → sized n ≡ false → Reached n me r s found after b
-  no-nodes after b e = record { readable = λ nodes h. absurd (clash nodes e); goes = λ nodes h. absurd (clash nodes e) }

@@ -55,29 +55,23 @@ pub fn take_inbox(
             let mut place: usize = 0;
             while place < message.len() {
                 let part = &message[place..];
-                match wire::read_record(n, part) {
-                    Record::Vote {
-                        primary,
-                        mask,
-                        count: _,
-                        next,
-                    } => {
-                        if is_wanted(me, round, primary, mask, after[primary].kept.count) {
-                            let batch = node::batch_from(wire::batch_bytes(n, part));
-                            let its = after[primary];
-                            if is_new(its, batch) {
-                                after[primary] = keep(its, mask, batch);
-                            }
-                        }
-                        place = place + next;
-                    }
-                    Record::Unreadable => {
-                        place = message.len();
-                    }
-                    Record::Refused => {
-                        place = message.len();
+                let Record::Vote {
+                    primary,
+                    mask,
+                    count: _,
+                    next,
+                } = wire::read_record(n, part)
+                else {
+                    break;
+                };
+                let its = after[primary];
+                if is_wanted(me, round, primary, mask, its) {
+                    let batch = node::batch_from(wire::batch_bytes(n, part));
+                    if is_new(its, batch) {
+                        after[primary] = keep(its, mask, batch);
                     }
                 }
+                place = place + next;
             }
         }
         at = end;
