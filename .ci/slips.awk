@@ -38,16 +38,12 @@ function outline(f, n,    i, s, module, impl, name, indent, begun, in_body) {
     }
 }
 
-# The proof file of a function.
-function proof_of(f) { sub(/^[^:]*::/, "", f); gsub(/::/, "/", f); return "proofs/" f "/Proof.antt" }
-
 function replacement(    i, at, k, o) {
     if (slip == "") { wrong("a replacement before the first `slip:`"); return }
-    if (file !~ /^(src|specs)\// && (kind != "body" || file != proof_of(fn))) { wrong(slip ": a slip is of src/ or specs/, not of " file); return }
+    if (file !~ /^(src|specs)\//) { wrong(slip ": a slip is of src/ or specs/, not of " file); return }
     load(file)
     for (i = 1; i <= lines[file]; i++) if (index(text[file, i], old)) at = i
     if (!at) { wrong(slip ": its `old:` is on no line of " file); return }
-    if (file ~ /^proofs\//) return # the places in its function's proof, moved on by what the slip adds
     k = file ~ /^specs\// ? "spec" : (file, at) in owner ? part[file, at] : "item"
     o = (file, at) in owner ? owner[file, at] : "-"
     if (!pairs++) { kind = k; fn = o; src = file }

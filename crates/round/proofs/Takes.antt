@@ -18,7 +18,8 @@ use Rattle.rules.proofs.Newly.{newly-snoc}
 use Rattle.rules.proofs.Gathered.{each-at, each-set}
 use Rattle.node.specs.Batches.{batchOf}
 use Rattle.node.specs.declared.Batch.{Batch as BatchHeld}
-use Rattle.keeping.specs.Keeping.{foundFor, acceptedBy, wanted, Keep}
+use Rattle.keeping.specs.Keeping.{foundFor, acceptedBy, hasRoom, isNew, wanted, Keep}
+use Rattle.keeping.proofs.Keeps.{keep-none}
 use Rattle.round.specs.Found.{foundBy, Take}
 use Rattle.keeping.specs.declared.Found.{Found}
 
@@ -43,19 +44,22 @@ neither-way true n true h = absurd (clash refl h)
 neither-way true true false h = refl
 neither-way true false false h = refl
 
+-- it has room for its batch, and is accepted
+abbrev taken : (me r many : ℕ) → Vote → Bool
+taken me r many v = hasRoom me (v .primary) many && acceptedBy r (v .primary) (v .mask)
+
 module _ (me r : ℕ) (kept : List Batch) (v : Vote) where
-  unwanted : eqb (v .primary) me ≡ false → wanted me r (v .primary) (v .mask) (length kept) ≡ false → keeps keptMost r (v .primary) kept v ≡ false
+  not-taken : eqb (v .primary) me ≡ false → taken me r (length kept) v ≡ false → keeps keptMost r (v .primary) kept v ≡ false
   unfolding keeps accepted shows
-  unwanted e h =
+  not-taken e h =
       neither-way (acceptedBy r (v .primary) (v .mask)) (not (among (v .batch) kept)) (ltb (length kept) keptMost) (simp e at h)
 
-  is-wanted : wanted me r (v .primary) (v .mask) (length kept) ≡ true
+  is-taken : taken me r (length kept) v ≡ true
       → (eqb (v .primary) me ≡ false) × ((not (among (v .batch) kept) && ltb (length kept) keptMost) ≡ keeps keptMost r (v .primary) kept v)
   unfolding keeps accepted shows
-  is-wanted h =
-      let a = both _ _ h in
-      let b = both (ltb (length kept) keptMost) (acceptedBy r (v .primary) (v .mask)) (a .1) in
-      (not-true (eqb (v .primary) me) (a .0), ap (λ (t : Bool). t && (not (among (v .batch) kept) && ltb (length kept) keptMost)) (sym (b .1)))
+  is-taken h =
+      let a = both (hasRoom me (v .primary) (length kept)) (acceptedBy r (v .primary) (v .mask)) h in
+      (not-true (eqb (v .primary) me) (both _ _ (a .0) .0), ap (λ (t : Bool). t && (not (among (v .batch) kept) && ltb (length kept) keptMost)) (sym (a .1)))
 
 -- ---- one vote more
 
@@ -81,21 +85,20 @@ module _ (me r : ℕ) (found : List Found) (d : Found) (v : Vote) (low : v .prim
       → getD found (v .primary) d .kept .count ≡ length (keptAfter keptMost r (v .primary) (kept (v .primary)) votes)
   many kept votes e = ap (λ (f : Found). f .kept .count) (its kept votes e)
 
-  -- whether it is wanted
+  abbrev at-its : Found
+  at-its = getD found (v .primary) d
+
   abbrev test : Bool
-  test = wanted me r (v .primary) (v .mask) (getD found (v .primary) d .kept .count)
+  test = taken me r (at-its .kept .count) v
 
-  pub vote-left : (after : List Found) (t : Bool) → t ≡ test → t ≡ false → after ≡ found → Take r found after (others me (v ∷ []))
-  vote-left after t told not-so same = subst (λ (f : List Found). Take r found f (others me (v ∷ []))) (sym same) (go (eqb (v .primary) me) refl)
+  left : test ≡ false → Take r found found (others me (v ∷ []))
+  left h = go (eqb (v .primary) me) refl
     where
-      h : test ≡ false
-      h = sym told ∙ not-so
-
       nowhere : eqb (v .primary) me ≡ false → (kept : ℕ → List Batch) (votes : List Vote) → found ≡ foundBy r kept votes → (q : ℕ) (t : Bool) → eqb (v .primary) q ≡ t
           → keeps keptMost r q (keptAfter keptMost r q (kept q) votes) v ≡ false
       nowhere e kept votes b q true t =
           subst (λ (p : ℕ). keeps keptMost r p (keptAfter keptMost r p (kept p) votes) v ≡ false) (eqb-true (v .primary) q t)
-          (unwanted me r (keptAfter keptMost r (v .primary) (kept (v .primary)) votes) v e (subst (λ (k : ℕ). wanted me r (v .primary) (v .mask) k ≡ false) (many kept votes b) h))
+          (not-taken me r (keptAfter keptMost r (v .primary) (kept (v .primary)) votes) v e (subst (λ (k : ℕ). taken me r k v ≡ false) (many kept votes b) h))
       nowhere e kept votes b q false t = other-primary keptMost r q (keptAfter keptMost r q (kept q) votes) v (eqb-false (v .primary) q t)
 
       go : (t : Bool) → eqb (v .primary) me ≡ t → Take r found found (others me (v ∷ []))
@@ -104,23 +107,19 @@ module _ (me r : ℕ) (found : List Found) (d : Found) (v : Vote) (low : v .prim
         takes = λ kept votes b. b ∙ all-unmoved r kept votes v (λ q. nowhere e kept votes b q (eqb (v .primary) q) refl);
       }
 
-  pub vote-kept : (after : List Found) (t : Bool) → t ≡ test → t ≡ true → (b : BatchHeld) (x : Found) → b ≡ batchOf (v .batch)
-      → Keep (getD found (v .primary) d) (v .mask) b x → after ≡ set found (v .primary) x → Take r found after (others me (v ∷ []))
-  vote-kept after t told so b x h k set-is = subst (λ (f : List Found). Take r found f (others me (v ∷ []))) (sym set-is) (go (eqb (v .primary) me) refl)
+  kept-with : test ≡ true → (b : BatchHeld) (x : Found) → b ≡ batchOf (v .batch) → Keep at-its (v .mask) b x → Take r found (set found (v .primary) x) (others me (v ∷ []))
+  kept-with w b x h k = go (eqb (v .primary) me) refl
     where
-      w : test ≡ true
-      w = sym told ∙ so
-
       kept-as : (kept : ℕ → List Batch) (votes : List Vote) → found ≡ foundBy r kept votes → x ≡ foundAt r kept (votes ++ (v ∷ [])) (v .primary)
       kept-as kept votes e =
           let p : ℕ = v .primary in
           let new : List Vote = newly keptMost r p (kept p) votes in
-          let q = is-wanted me r (keptAfter keptMost r p (kept p) votes) v (subst (λ (j : ℕ). wanted me r p (v .mask) j ≡ true) (many kept votes e) w) in
+          let q = is-taken me r (keptAfter keptMost r p (kept p) votes) v (subst (λ (j : ℕ). taken me r j v ≡ true) (many kept votes e) w) in
           k .keeps (kept p) new v (its kept votes e) refl h
           ∙ ap (foundFor (kept p)) (ap (λ (t : Bool). new ++ cond t (v ∷ []) []) (q .1) ∙ sym (newly-snoc keptMost r p (kept p) votes v))
 
       go : (t : Bool) → eqb (v .primary) me ≡ t → Take r found (set found (v .primary) x) (others me (v ∷ []))
-      go true e = absurd (clash e (not-true (eqb (v .primary) me) (both _ _ w .0)))
+      go true e = absurd (clash e (not-true (eqb (v .primary) me) (both _ _ (both (hasRoom me (v .primary) (at-its .kept .count)) _ w .0) .0)))
       go false e = rw e record {
         takes = λ kept votes b.
             ap (λ (f : List Found). set f (v .primary) x) b
@@ -128,7 +127,26 @@ module _ (me r : ℕ) (found : List Found) (d : Found) (v : Vote) (low : v .prim
             (λ q n. unmoved r kept votes v q (other-primary keptMost r q (keptAfter keptMost r q (kept q) votes) v (λ i. n (sym i))));
       }
 
-  -- where what is found for its primary stays, all of it does
-  pub vote-held : (after : List Found) (t : Bool) → t ≡ test → t ≡ true → (b : BatchHeld) → b ≡ batchOf (v .batch)
-      → Keep (getD found (v .primary) d) (v .mask) b (getD found (v .primary) d) → after ≡ found → Take r found after (others me (v ∷ []))
-  vote-held after t told so b h k same = vote-kept after t told so b (getD found (v .primary) d) h k (same ∙ sym (set-getD found (v .primary) d))
+  -- a vote changes nothing where there is no room for its batch, or where it is not wanted; else its batch is kept
+  module _ (after : List Found) (t : Bool) (told : t ≡ hasRoom me (v .primary) (at-its .kept .count)) where
+    pub vote-left : t ≡ false → after ≡ found → Take r found after (others me (v ∷ []))
+    vote-left none same = subst (λ (f : List Found). Take r found f (others me (v ∷ []))) (sym same) (left (simp (sym told ∙ none)))
+
+    module _ (so : t ≡ true) (b : BatchHeld) (h : b ≡ batchOf (v .batch)) (u : Bool) (wants : u ≡ wanted r (v .primary) (v .mask) at-its b) where
+      room : hasRoom me (v .primary) (at-its .kept .count) ≡ true
+      room = sym told ∙ so
+
+      pub vote-kept : u ≡ true → (x : Found) → (isNew at-its b ≡ true → Keep at-its (v .mask) b x) → after ≡ set found (v .primary) x
+          → Take r found after (others me (v ∷ []))
+      vote-kept is x k set-is =
+          let w = both (acceptedBy r (v .primary) (v .mask)) (isNew at-its b) (sym wants ∙ is) in
+          subst (λ (f : List Found). Take r found f (others me (v ∷ []))) (sym set-is) (kept-with (simp (room, w .0)) b x h (k (w .1)))
+
+      pub vote-dropped : u ≡ false → after ≡ found → Take r found after (others me (v ∷ []))
+      vote-dropped not-so same = subst (λ (f : List Found). Take r found f (others me (v ∷ []))) (sym same) (go (acceptedBy r (v .primary) (v .mask)) refl)
+        where
+          go : (s : Bool) → acceptedBy r (v .primary) (v .mask) ≡ s → Take r found found (others me (v ∷ []))
+          go false e = left (simp (room, e))
+          go true e =
+              subst (λ (f : List Found). Take r found f (others me (v ∷ []))) (set-getD found (v .primary) d)
+              (kept-with (simp (room, e)) b at-its h (keep-none at-its (v .mask) b (simp e at (sym wants ∙ not-so))))

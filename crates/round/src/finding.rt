@@ -1,8 +1,8 @@
 // The votes of an inbox, taken up one after the other.
 ghost use Rattle.round.specs.Found.{Begin, TakeInbox};
 use keeping::Found;
+use keeping::has_room;
 use keeping::is_heard;
-use keeping::is_new;
 use keeping::is_wanted;
 use keeping::keep;
 use node::Kept;
@@ -64,10 +64,10 @@ pub fn take_inbox(
                 else {
                     break;
                 };
-                let its = after[primary];
-                if is_wanted(me, round, primary, mask, its) {
+                if has_room(me, primary, after[primary].kept.count) {
                     let batch = node::batch_from(wire::batch_bytes(n, part));
-                    if is_new(its, batch) {
+                    let its = after[primary];
+                    if is_wanted(round, primary, mask, its, batch) {
                         after[primary] = keep(its, mask, batch);
                     }
                 }
