@@ -26,12 +26,10 @@ module _ (s : List ℕ) (at : ℕ) where
   pub is-missing : length s < endAt s at → MessageAt s at Missing
   is-missing h = let e = lt-leb _ _ h in record { number = simp e; values = simp e }
 
-  -- its length put together from its bytes
-  pub is-message : (low high : ℕ) → endAt s at ≤ length s → low ≡ getD s at 0 → high ≡ getD s (at + 1) 0
-      → MessageAt s at (Message (at + lengthSize) (at + lengthSize + (low + 256 * high)))
-  is-message low high h el eh =
-      let e = le-leb _ _ h in
-      record { number = simp e; values = simp e (λ i. some (record { start = at + lengthSize; end = at + lengthSize + (el i + 256 * eh i) })) }
+  pub is-message : (k : ℕ) → endAt s at ≤ length s → k ≡ lengthAt s at → MessageAt s at (Message (at + lengthSize) (at + lengthSize + k))
+  is-message k h e =
+      let f = le-leb _ _ h in
+      record { number = simp f; values = simp f (λ i. some (record { start = at + lengthSize; end = at + lengthSize + e i })) }
 
 -- what an answer tells
 pub record Told (s : List ℕ) (at start end : ℕ) : Type 0 where

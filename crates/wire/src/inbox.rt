@@ -9,8 +9,8 @@ use crate::Heard;
 use crate::LENGTH_SIZE;
 use crate::Message;
 use crate::Place;
+use crate::pair::pair_at;
 use crate::read_message;
-use entries::wide;
 use rules::is_sized;
 
 // Where the message stands whose length stands at `at`.
@@ -24,9 +24,7 @@ pub fn message_at(inbox: &[u8], at: usize) -> Place
         return Place::Missing;
     }
     let start = at + LENGTH_SIZE;
-    let low = wide(inbox[at]);
-    let high = wide(inbox[at + 1]);
-    let length = (low + 256 * high) as usize;
+    let length = pair_at(inbox, at) as usize;
     if inbox.len() - start < length {
         return Place::Missing;
     }

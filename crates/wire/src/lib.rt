@@ -2,7 +2,9 @@
 // something or refused, and where a call is refused nothing is written.
 mod inbox;
 mod mask;
+mod pair;
 mod read;
+mod size;
 mod write;
 
 use entries::ENTRY_SIZE;

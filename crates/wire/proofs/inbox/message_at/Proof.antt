@@ -22,42 +22,27 @@ returns-2 c =
 add-start : tie.Need-add-start
 add-start c = search needs
 
-shared-slice-read-wide : tie.Need-shared-slice-read-wide
-shared-slice-read-wide c = search needs
+pair-at-requires : tie.Need-pair-at-requires
+pair-at-requires c κs = omega arith
 
-wide-requires : tie.Need-wide-requires
-wide-requires c κs = search needs
-
-add-wide : tie.Need-add-wide
-add-wide c = search needs
-
-shared-slice-read-wide-2 : tie.Need-shared-slice-read-wide-2
-shared-slice-read-wide-2 c = search needs
-
-wide-requires-2 : tie.Need-wide-requires-2
-wide-requires-2 c κs = search needs
-
-mul-length : tie.Need-mul-length
-mul-length c = search needs
-
-add-length : tie.Need-add-length
-add-length c = search needs
+cast-length : tie.Need-cast-length
+cast-length c = search needs
 
 sub-if3 : tie.Need-sub-if3
 sub-if3 c = search needs
 
 returns-3 : tie.Need-returns-3
 returns-3 c =
-    let a = c .before .before .before .before .before .before .before .before .args in
+    let a = c .before .before .before .before .before .args in
     is-missing (now (a .inbox)) (a .at) (omega arith)
 
-add-t9 : tie.Need-add-t9
-add-t9 c = search needs
+add-t5 : tie.Need-add-t5
+add-t5 c = search needs
 
 returns-4 : tie.Need-returns-4
 returns-4 c =
-    let a = c .before .before .before .before .before .before .before .before .args in
-    is-message (now (a .inbox)) (a .at) _ _ (omega arith) (c .before .before .before .wide .ensures .0) (c .before .wide2 .ensures .0)
+    let a = c .before .before .before .before .before .args in
+    is-message (now (a .inbox)) (a .at) _ (omega arith) (c .before .pair-at .ensures)
 
 pub message-at-spec : {M : Type 1} → statement M
 message-at-spec =
@@ -67,14 +52,9 @@ message-at-spec =
     sub-if2
     returns-2
     add-start
-    shared-slice-read-wide
-    wide-requires
-    add-wide
-    shared-slice-read-wide-2
-    wide-requires-2
-    mul-length
-    add-length
+    pair-at-requires
+    cast-length
     sub-if3
     returns-3
-    add-t9
+    add-t5
     returns-4)
