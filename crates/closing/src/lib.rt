@@ -2,7 +2,8 @@
 ghost use mathlib.Core.Path.{_≡_};
 ghost use mathlib.Core.Bool.{true};
 ghost use Prim.Native.Nat.{_+_, _≤_};
-ghost use Rattle.rules.specs.Sizes.{isLog};
+ghost use lib.Dec.{leb};
+ghost use Rattle.rules.specs.Sizes.{logMost, isLog};
 ghost use Rattle.node.specs.State.{soundNode};
 ghost use Rattle.closing.specs.Close.{Close, refusedClose};
 
@@ -27,6 +28,13 @@ fn refused(number: u8) -> Closed
     Closed { number, length: 0 }
 }
 
+// Whether a log may have this many entries.
+fn is_log_length(length: usize) -> bool
+    ensures { λ r. ⌜ r ≡ leb length logMost ⌝ }
+{
+    length <= LOG_MOST
+}
+
 // The close of a sound node whose rounds are over, with an old log that is one.
 fn join_all(node: Node, old: &[u64], output: &mut [u64]) -> Closed
     requires { ⌜ (soundNode node ≡ true) × (node .f + 2 ≤ node .phase) × (isLog (now old) ≡ true) ⌝ }
@@ -37,7 +45,7 @@ fn join_all(node: Node, old: &[u64], output: &mut [u64]) -> Closed
     let entries = gathered.entries;
     let new = &entries[..count];
     let length = merging::joined_length(old, new);
-    if LOG_MOST < length {
+    if !is_log_length(length) {
         return refused(8);
     }
     if output.len() < length {

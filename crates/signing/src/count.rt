@@ -3,8 +3,8 @@ ghost use mathlib.Core.Path.{_≡_};
 ghost use Prim.Native.Nat.{_+_, _*_, _≤_};
 ghost use lib.ListN.{length};
 ghost use Rattle.rules.specs.Sizes.{nodesMost};
-ghost use Rattle.rules.specs.Signers.{signer, signersOf};
-ghost use Rattle.signing.specs.Slots.{slotSize, slotOf};
+ghost use Rattle.rules.specs.Signers.{signer, signersOf, enough};
+ghost use Rattle.signing.specs.Slots.{slotSize, areSlots, slotOf};
 ghost use Rattle.signing.specs.Count.{Refused, SignersAre};
 use crate::MARK_SIZE;
 use crate::SLOT_SIZE;
@@ -45,6 +45,22 @@ fn signers_mask(n: usize, me: usize, mark: &[u8; MARK_SIZE], slots: &[u8]) -> u1
     mask
 }
 
+// Whether these are n slots.
+fn are_slots(n: usize, slots: &[u8]) -> bool
+    requires { ⌜ n ≤ nodesMost ⌝ }
+    ensures { λ r. ⌜ r ≡ areSlots n (now (slots .entry)) ⌝ }
+{
+    slots.len() == SLOT_SIZE * n
+}
+
+// Whether f + 1 or more bits of the mask are set.
+fn are_enough(f: usize, mask: u16) -> bool
+    requires { ⌜ f ≤ nodesMost ⌝ }
+    ensures { λ r. ⌜ r ≡ enough f mask ⌝ }
+{
+    f + 1 <= u16::count_ones(mask) as usize
+}
+
 // The signers of the own mark among n slots: f + 1 or more, or a refusal.
 pub fn signers(n: usize, f: usize, me: usize, mark: &[u8; MARK_SIZE], slots: &[u8]) -> SigningCount
     ensures { λ r. ⌜ SignersAre n f me (now (mark .entry)) (now (slots .entry)) r ⌝ }
@@ -52,11 +68,11 @@ pub fn signers(n: usize, f: usize, me: usize, mark: &[u8; MARK_SIZE], slots: &[u
     if !are_sizes(n, f, me) {
         return refused(1);
     }
-    if slots.len() != SLOT_SIZE * n {
+    if !are_slots(n, slots) {
         return refused(4);
     }
     let mask = signers_mask(n, me, mark, slots);
-    if (u16::count_ones(mask) as usize) < f + 1 {
+    if !are_enough(f, mask) {
         return refused(10);
     }
     SigningCount { number: 0, mask }

@@ -1,9 +1,8 @@
 -- Each answer is one law; the sizes keep every number small.
 use mathlib.Core.Path.{sym, _∙_}
 use native.Mathlib.Omega.{arith}
-use borrow.Author.Tests.{not-true, not-false}
+use borrow.Author.Tests.{not-true, not-false, eqb-true}
 use denote.Ref.{now}
-use lib.Count.{ones-le}
 use Rattle.rules.proofs.Sizes.{sizes-told}
 use Rattle.signing.proofs.Answers.{no-sizes, no-slots, too-few, found}
 use borrow.Author.Needs.{needs}
@@ -22,34 +21,33 @@ returns c =
     let s = sym (c .before .before .are-sizes .ensures) ∙ not-true _ (c .before .if1 .taken) in
     no-sizes (a .n) (a .f) (a .me) (now (a .mark)) (now (a .slots)) _ (c .refused .ensures) s
 
-mul-if2 : tie.Need-mul-if2
-mul-if2 c =
+are-slots-requires : tie.Need-are-slots-requires
+are-slots-requires c κs =
     let a = c .before .before .before .args in
     let s = sym (c .before .are-sizes .ensures) ∙ not-false _ (c .if1 .left) in
-    omega (arith, sizes-told (a .n) (a .f) (a .me) s .most)
+    sizes-told (a .n) (a .f) (a .me) s .most
 
 refused-requires-2 : tie.Need-refused-requires-2
 refused-requires-2 c κs = search needs
 
 returns-2 : tie.Need-returns-2
 returns-2 c =
-    let a = c .before .before .before .before .before .args in
-    let s = sym (c .before .before .before .are-sizes .ensures) ∙ not-false _ (c .before .before .if1 .left) in
-    no-slots (a .n) (a .f) (a .me) (now (a .mark)) (now (a .slots)) s _ (c .refused2 .ensures) (λ e. omega arith)
+    let a = c .before .before .before .before .before .before .args in
+    let s = sym (c .before .before .before .before .are-sizes .ensures) ∙ not-false _ (c .before .before .before .if1 .left) in
+    let e = sym (c .before .before .are-slots .ensures) ∙ not-true _ (c .before .if2 .taken) in
+    no-slots (a .n) (a .f) (a .me) (now (a .mark)) (now (a .slots)) s _ (c .refused2 .ensures) e
 
 signers-mask-requires : tie.Need-signers-mask-requires
 signers-mask-requires c κs =
-    let a = c .before .before .before .before .args in
-    let s = sym (c .before .before .are-sizes .ensures) ∙ not-false _ (c .before .if1 .left) in
-    (sizes-told (a .n) (a .f) (a .me) s .most, omega arith)
-
-cast-if3 : tie.Need-cast-if3
-cast-if3 c = omega (arith, ones-le 16 (c .signers-mask .result) (omega arith))
-
-add-if3 : tie.Need-add-if3
-add-if3 c =
     let a = c .before .before .before .before .before .args in
     let s = sym (c .before .before .before .are-sizes .ensures) ∙ not-false _ (c .before .before .if1 .left) in
+    let e = sym (c .before .are-slots .ensures) ∙ not-false _ (c .if2 .left) in
+    (sizes-told (a .n) (a .f) (a .me) s .most, eqb-true _ _ e)
+
+are-enough-requires : tie.Need-are-enough-requires
+are-enough-requires c κs =
+    let a = c .before .before .before .before .before .before .args in
+    let s = sym (c .before .before .before .before .are-sizes .ensures) ∙ not-false _ (c .before .before .before .if1 .left) in
     let t = sizes-told (a .n) (a .f) (a .me) s in
     omega (arith, t .half, t .most)
 
@@ -58,15 +56,21 @@ refused-requires-3 c κs = search needs
 
 returns-3 : tie.Need-returns-3
 returns-3 c =
-    let a = c .before .before .before .before .before .before .before .args in
-    let s = sym (c .before .before .before .before .before .are-sizes .ensures) ∙ not-false _ (c .before .before .before .before .if1 .left) in
-    too-few (a .n) (a .f) (a .me) (now (a .mark)) (now (a .slots)) s (omega arith) _ (c .before .before .signers-mask .ensures) _ (c .refused3 .ensures) (omega arith)
+    let d = c .before .before .before .before in
+    let a = d .before .before .before .before .before .args in
+    let s = sym (d .before .before .before .are-sizes .ensures) ∙ not-false _ (d .before .before .if1 .left) in
+    let e = sym (d .before .are-slots .ensures) ∙ not-false _ (d .if2 .left) in
+    let t = sym (c .before .before .are-enough .ensures) ∙ not-true _ (c .before .if3 .taken) in
+    too-few (a .n) (a .f) (a .me) (now (a .mark)) (now (a .slots)) s e _ (c .before .before .before .signers-mask .ensures) _ (c .refused3 .ensures) t
 
 returns-4 : tie.Need-returns-4
 returns-4 c =
-    let a = c .before .before .before .before .before .before .args in
-    let s = sym (c .before .before .before .before .are-sizes .ensures) ∙ not-false _ (c .before .before .before .if1 .left) in
-    found (a .n) (a .f) (a .me) (now (a .mark)) (now (a .slots)) s (omega arith) _ (omega (arith, c .before .signers-mask .ensures)) (omega arith)
+    let d = c .before .before .before in
+    let a = d .before .before .before .before .before .args in
+    let s = sym (d .before .before .before .are-sizes .ensures) ∙ not-false _ (d .before .before .if1 .left) in
+    let e = sym (d .before .are-slots .ensures) ∙ not-false _ (d .if2 .left) in
+    let t = sym (c .before .are-enough .ensures) ∙ not-false _ (c .if3 .left) in
+    found (a .n) (a .f) (a .me) (now (a .mark)) (now (a .slots)) s e _ (omega (arith, c .before .before .signers-mask .ensures)) t
 
 pub signers-spec : {M : Type 1} → statement M
 signers-spec =
@@ -75,12 +79,11 @@ signers-spec =
     are-sizes-requires
     refused-requires
     returns
-    mul-if2
+    are-slots-requires
     refused-requires-2
     returns-2
     signers-mask-requires
-    cast-if3
-    add-if3
+    are-enough-requires
     refused-requires-3
     returns-3
     returns-4)
