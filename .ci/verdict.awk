@@ -11,7 +11,7 @@ function own(f, file) { sub(/^[^:]*::/, "", f); gsub(/::/, "/", f); return file 
 # Whether an error is of the fit of a proof file and no fact: a need more, less or in another place, or a place before or after the one that is named.
 function unfitting(e) {
     return e ~ /expected type `tie\.Need-[^`]*`, but this has type `tie\.Need-/ || e ~ /has no `Need-/ || e ~ /record `[^`]*\.Lts\.[^`]*` has no field/ ||
-        e ~ /expected type `[^` ]*\.?(tie|Lts)\.(Start|After-|At-|In-|Left-|Then|Else|Joined)/
+        e ~ /projects from a `×` type or a record, but this has type/ || e ~ /expected type `[^` ]*\.?(tie|Lts)\.(Start|After-|At-|In-|Left-|Then|Else|Joined)/
 }
 
 function fails(i, where, numbers) {
@@ -22,7 +22,7 @@ function fails(i, where, numbers) {
 function told(    where, file, i, hit) {
     if (error == "") return
     where = place(error); file = where; sub(/:.*/, "", file)
-    if (error ~ /: error: `[^`]*-spec`: `[^`]*` was not admitted \(/) ; # follows from an error above
+    if (error ~ /: error: `[^`]*`: `[^`]*` was not admitted \(/) ; # follows from an error above
     else if (unfitting(error)) wrong("at " where " a proof file no longer fits the code")
     else {
         for (i = 1; i <= n; i++) if (kind[i] != "body" || own(fn[i], file)) { hit = 1; fails(i, where, index(error, "All of that holds, and ")) }
