@@ -7,7 +7,7 @@ use native.Mathlib.Omega.{arith}
 use borrow.Author.Tests.{eqb-true, eqb-false}
 use lib.Dec.{eqb}
 use lib.ListN.{length, get_or, set}
-use lib.Seq.{get_or-set_same, get_or_set_other, ext_get_or}
+use lib.Seq.{get_or-set_same, get_or-set_other, ext_get_or}
 use Rattle.rules.specs.Sizes.{nodes_most}
 use Rattle.rules.specs.Vote.{Batch}
 use Rattle.rules.specs.Step.{kept_most, newly}
@@ -39,7 +39,7 @@ one_filled kept found p l f i h = go (eqb i p) refl
     go true e = let q : i ≡ p = eqb-true i p e in rw q (get_or-set_same found p (bare (kept_at kept p)) beyond l)
     go false e =
         let q : i ≡ p → ⊥ = eqb-false i p e in
-        get_or_set_other found p i (bare (kept_at kept p)) beyond q ∙ f i (omega arith)
+        get_or-set_other found p i (bare (kept_at kept p)) beyond q ∙ f i (omega arith)
 
 no_masks : (old : List Batch) → bare (kept_as old) ≡ found_for old []
 no_masks [] = refl

@@ -7,7 +7,7 @@ use native.Mathlib.Omega.{arith}
 use borrow.Author.Tests.{eqb-true, eqb-false}
 use lib.Dec.{eqb}
 use lib.ListN.{length, get_or, set}
-use lib.Seq.{get_or-set_same, get_or_set_other, ext_get_or}
+use lib.Seq.{get_or-set_same, get_or-set_other, ext_get_or}
 use Rattle.rules.specs.Step.{gather}
 use Rattle.rules.proofs.Gathered.{each_length, each_at}
 
@@ -23,7 +23,7 @@ module _ {A : Type 0} (d : A) (g : ℕ → A) where
       go true q = let p : j ≡ i = eqb-true j i q in rw p (get_or-set_same xs i y d l ∙ e)
       go false q =
           let p : j ≡ i → ⊥ = eqb-false j i q in
-          get_or_set_other xs i j y d p ∙ f j (omega arith)
+          get_or-set_other xs i j y d p ∙ f j (omega arith)
 
   pub all_filled : (xs : List A) (n : ℕ) → length xs ≡ n → Filled xs n → xs ≡ gather (λ (j : ℕ). g j ∷ []) n
   all_filled xs n l f =

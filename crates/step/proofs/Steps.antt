@@ -4,7 +4,7 @@ use Prim.Native.Nat.{ℕ, zero, suc, ◌+◌, ◌≤◌, ◌<◌}
 use mathlib.Core.Path.{◌≡◌, refl, sym, ap, ap₂, subst, ◌∙◌}
 use mathlib.Core.Logic.{◌≢◌}
 use mathlib.Core.Bool.{Bool, true, false, cond, and-false}
-use mathlib.Core.List.{List, [], ◌∷◌, ◌++◌, map, map_append}
+use mathlib.Core.List.{List, [], ◌∷◌, ◌++◌, map, map-append}
 use native.Mathlib.Numerals.{add-one}
 use native.Mathlib.Omega.{arith}
 use borrow.Author.Tests.{lt-leb, le-leb, leb-true, lt-ltb, eq-eqb, ne_eqb}
@@ -75,7 +75,7 @@ one_kept found kept p z h l e =
     ap (λ (j : ℕ). take j (set kept p (get_or found p z).kept)) (add-one p)
     ∙ take-suc-set kept p (get_or found p z).kept l
     ∙ ap (λ (x : List Kept). x ++ ((get_or found p z).kept ∷ [])) e
-    ∙ sym (map_append (λ (x : Found). x.kept) (take p found) (get_or found p z ∷ []))
+    ∙ sym (map-append (λ (x : Found). x.kept) (take p found) (get_or found p z ∷ []))
     ∙ ap kept_in (sym (take-suc found p z h))
     ∙ ap (λ (j : ℕ). kept_in (take j found)) (sym (add-one p))
 
@@ -86,7 +86,7 @@ gathered_kept : (g : ℕ → Found) (n : ℕ) → kept_in (gather (λ (p : ℕ).
 unfolding gather
 gathered_kept g zero = refl
 gathered_kept g (suc n) =
-    map_append (λ (x : Found). x.kept) (gather (λ (p : ℕ). g p ∷ []) n) (g n ∷ []) ∙ ap (λ (l : List Kept). l ++ ((g n).kept ∷ [])) (gathered_kept g n)
+    map-append (λ (x : Found). x.kept) (gather (λ (p : ℕ). g p ∷ []) n) (g n ∷ []) ∙ ap (λ (l : List Kept). l ++ ((g n).kept ∷ [])) (gathered_kept g n)
 
 -- ---- the answers
 
