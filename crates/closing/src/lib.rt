@@ -7,13 +7,13 @@ ghost use Rattle.closing.specs.Close.{Close, refused_close};
 mod decisions; // decisions.rt: the entries of all n decisions, gathered once
 mod merging; // merging.rt: entries joined with ascending new ones, in one pass
 
-use log::is_log;
+use reading_log::is_log;
 use node::Node;
 use rules::LOG_MOST;
 
 // A refusal's number or 0, and the length of the new log.
 #[repr(C)]
-#[derive(Drop)]
+#[derive(Clone, Copy)]
 pub struct Closed {
     pub number: u8,
     pub length: usize,

@@ -29,7 +29,7 @@ const BEYOND: u64 = 4096 * INTERVAL + WATT_HOURS_MOST;
 
 // A bar of a meter.
 fn bar(log: &[u64], meter: u16, first: u16, last: u16) {
-    let answer = log::bar(log, meter, first, last);
+    let answer = reading_log::bar(log, meter, first, last);
     page::number(answer.number as u64);
     page::number(answer.sum);
 }

@@ -7,7 +7,7 @@ pub use heading::read_header;
 pub const HEADER_SIZE: usize = 3;
 
 // The keys of the header lines.
-#[derive(Drop)]
+#[derive(Clone, Copy)]
 pub enum Key {
     Nodes,
     Faults,
@@ -15,7 +15,7 @@ pub enum Key {
 }
 
 // What the header lines say; the faulty nodes as a mask.
-#[derive(Drop)]
+#[derive(Clone, Copy)]
 pub struct Header {
     pub n: usize,
     pub f: usize,
@@ -23,7 +23,7 @@ pub struct Header {
 }
 
 // A header, or the number of its first bad line.
-#[derive(Drop)]
+#[derive(Clone, Copy)]
 pub enum Headed {
     Read(Header),
     BadAt(usize),

@@ -5,7 +5,7 @@ mod wire_calls; // wire_calls.rt: the reader, the writer, the inbox
 
 // What a part of an inbox starts with, in numbers: a refusal's number or 0; whether the record is readable; then its values, else 0.
 #[repr(C)]
-#[derive(Drop)]
+#[derive(Clone, Copy)]
 pub struct ToldRecord {
     pub number: u8,
     pub readable: bool,
@@ -17,7 +17,7 @@ pub struct ToldRecord {
 
 // Where the batch's bytes stand in the part that was handed in: after the head of a readable record, with no entries too; else none, at 0.
 #[repr(C)]
-#[derive(Drop)]
+#[derive(Clone, Copy)]
 pub struct BatchPart {
     pub start: usize,
     pub size: usize,
@@ -25,7 +25,7 @@ pub struct BatchPart {
 
 // What a message reads as, in numbers: a refusal's number or 0; whether it is readable; how many votes it says, else 0.
 #[repr(C)]
-#[derive(Drop)]
+#[derive(Clone, Copy)]
 pub struct ToldMessage {
     pub number: u8,
     pub readable: bool,
@@ -34,7 +34,7 @@ pub struct ToldMessage {
 
 // What became of a record to be written, in numbers: a refusal's number or 0, and the record's size, else 0.
 #[repr(C)]
-#[derive(Drop)]
+#[derive(Clone, Copy)]
 pub struct ToldWritten {
     pub number: u8,
     pub size: usize,

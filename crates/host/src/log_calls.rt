@@ -1,10 +1,10 @@
 // The calls of the log: the close, the signing count, the bar.
 ghost use Rattle.closing.specs.Close.{Close};
 ghost use Rattle.signing.specs.Count.{SignersAre};
-ghost use Rattle.log.specs.Bar.{BarIs};
+ghost use Rattle.reading_log.specs.Bar.{BarIs};
 
 use closing::Closed;
-use log::MeterBar;
+use reading_log::MeterBar;
 use node::Node;
 use signing::{MARK_SIZE, SigningCount};
 
@@ -30,10 +30,10 @@ pub extern "C" fn raudokiin_signers(
     signing::signers(n, f, me, mark, slots)
 }
 
-// `log::bar`.
+// `reading_log::bar`.
 #[unsafe(no_mangle)]
 pub extern "C" fn raudokiin_bar(log: &[u64], meter: u16, first: u16, last: u16) -> MeterBar
     ensures { BarIs log.now meter first last result }
 {
-    log::bar(log, meter, first, last)
+    reading_log::bar(log, meter, first, last)
 }

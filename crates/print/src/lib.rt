@@ -6,7 +6,7 @@ mod fill;
 mod sizes;
 
 // What a list's items are: node numbers, or entries.
-#[derive(Drop)]
+#[derive(Clone, Copy)]
 pub enum Items {
     Nodes,
     Entries,

@@ -8,7 +8,7 @@ mod telling;
 use report::TEXT_MOST;
 
 // The number of a refusal, or 0 and the length of the text.
-#[derive(Drop)]
+#[derive(Clone, Copy)]
 pub struct Rehearsed {
     pub number: u8,
     pub length: usize,

@@ -8,7 +8,7 @@ use outcome::has_bit;
 use rules::NODES_MOST;
 
 // Node numbers, `count` of them.
-#[derive(Drop)]
+#[derive(Clone, Copy)]
 pub(crate) struct Listing {
     pub count: usize,
     pub nodes: [u64; NODES_MOST],

@@ -9,14 +9,14 @@ pub use sends::{message_text, read_send};
 pub const SCHEDULE_MOST: usize = 65536;
 
 // The sizes of a schedule of good form, or the number of its first bad line.
-#[derive(Drop)]
+#[derive(Clone, Copy)]
 pub enum Form {
     Good { n: usize, f: usize },
     Bad(usize),
 }
 
 // What a line reads as that should be a send.
-#[derive(Drop)]
+#[derive(Clone, Copy)]
 pub enum Sending {
     Sent {
         round: usize,

@@ -11,7 +11,7 @@ pub const SLOT_SIZE: usize = 1 + MARK_SIZE;
 
 // A refusal's number or 0, and the mask of the signers.
 #[repr(C)]
-#[derive(Drop)]
+#[derive(Clone, Copy)]
 pub struct SigningCount {
     pub number: u8,
     pub mask: u16,

@@ -8,14 +8,14 @@ pub use rounds::{advance_to, start};
 use rules::NODES_MOST;
 
 // A node, and what it sends.
-#[derive(Drop)]
+#[derive(Clone, Copy)]
 pub struct Stood {
     pub node: Node,
     pub outbox: Outbox,
 }
 
 // Where a run stands: the round to be taken next (0 stands for the opening), the nodes by number, and what they send in it.
-#[derive(Drop)]
+#[derive(Clone, Copy)]
 pub struct Standing {
     pub next: usize,
     pub nodes: [Node; NODES_MOST],

@@ -6,7 +6,7 @@ pub use stepping::step;
 
 // A refusal's number or 0, the length of what the outbox holds, the senders whose message was unreadable, the node afterwards.
 #[repr(C)]
-#[derive(Drop)]
+#[derive(Clone, Copy)]
 pub struct Stepped {
     pub number: u8,
     pub length: usize,

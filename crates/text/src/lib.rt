@@ -24,21 +24,21 @@ pub const HALF_MOST: u32 = 65535;
 pub const WORD_MOST: u32 = 4294967295;
 
 // What a text reads as that should be a number.
-#[derive(Drop)]
+#[derive(Clone, Copy)]
 pub enum Number {
     Value(u64),
     NoNumber,
 }
 
 // What a list's items are: numbers below so much, or entries.
-#[derive(Drop)]
+#[derive(Clone, Copy)]
 pub enum Kind {
     Below(usize),
     Entry,
 }
 
 // A list that was read; the places not used are zero. One that is not good is empty.
-#[derive(Drop)]
+#[derive(Clone, Copy)]
 pub struct Listed {
     pub good: bool,
     pub count: usize,

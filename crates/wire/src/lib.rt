@@ -23,7 +23,7 @@ pub const MESSAGE_MOST: usize = (NODES_MOST - 1) * 2 * RECORD_MOST;
 pub const LENGTH_SIZE: usize = 2;
 
 // What a part of an inbox starts with; `next` counts from the part's start. Refused is 1.
-#[derive(Drop)]
+#[derive(Clone, Copy)]
 pub enum Record {
     Vote {
         primary: usize,
@@ -36,7 +36,7 @@ pub enum Record {
 }
 
 // What a whole message reads as: so many votes. Refused is 1.
-#[derive(Drop)]
+#[derive(Clone, Copy)]
 pub enum Message {
     Votes(usize),
     Unreadable,
@@ -44,14 +44,14 @@ pub enum Message {
 }
 
 // What became of a record to be written: its size, or the refusal's number.
-#[derive(Drop)]
+#[derive(Clone, Copy)]
 pub enum Written {
     Length(usize),
     Refused(u8),
 }
 
 // Where a message stands in an inbox. Missing is 4.
-#[derive(Drop)]
+#[derive(Clone, Copy)]
 pub enum Place {
     Message { start: usize, end: usize },
     Missing,
@@ -59,7 +59,7 @@ pub enum Place {
 
 // The senders of an inbox whose message is unreadable.
 #[repr(C)]
-#[derive(Drop)]
+#[derive(Clone, Copy)]
 pub struct Heard {
     pub number: u8,
     pub unreadable: u16,
