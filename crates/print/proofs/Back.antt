@@ -8,7 +8,7 @@ use borrow.Author.Tests.{le-leb, le-ltb, leb-true, lt-ltb, ltb-false, ltb-true, 
 use lib.Dec.{eqb, leb, ltb}
 use lib.ListN.{get_or-append, drop, get_or, length, length-append, take}
 use lib.Seq.{append_snoc, drop_at, take-append_seam}
-use Rattle.laws.proofs.Tests.{both, other}
+use Rattle.laws.proofs.Tests.{both}
 use Rattle.text.specs.Numbers.{decimal, digit_of, digits_below, entry_as, entry_in, field_of, half_most, number_in, value_from, word_most}
 use Rattle.text.specs.Places.{dot, past, place_of}
 use Rattle.text.specs.declared.Number.TheVariants.{Value}

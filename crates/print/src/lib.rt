@@ -1,4 +1,6 @@
 // Printing: each writer writes over the front of the output that it is lent if there is room for the whole text, and else writes nothing.
+#![tactic(auto)]
+
 ghost use Rattle.text.specs.Put.{Put};
 ghost use Rattle.print.specs.Texts.{decimal_of, line_text, list_text};
 

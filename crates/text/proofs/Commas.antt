@@ -12,7 +12,6 @@ use lib.Seq.{append_snoc, drop-drop, set_at}
 use Rattle.laws.specs.Masks.{count}
 use Rattle.laws.specs.Order.{ascends, ascends_from}
 use Rattle.rules.specs.Sizes.{batch_most, is_batch}
-use Rattle.rules.proofs.Firsts.{room}
 use Rattle.text.specs.Lists.{ahead, and_item, below_as, checked, item_of, items_of, list_of, listed_as, split}
 use Rattle.text.specs.Numbers.{number_in, word_most}
 use Rattle.text.specs.Places.{comma, place_of}

@@ -2,7 +2,6 @@
 use Prim.Native.Nat.{◌+◌, ◌-◌, ◌<◌, ◌≤◌, suc, ℕ}
 use mathlib.Core.Bool.{Bool, cond, false, true}
 use mathlib.Core.List.{List, [], ◌++◌, ◌∷◌}
-use mathlib.Core.Option.{some}
 use mathlib.Core.Path.{◌∙◌, ◌≡◌, ap, ap₂, refl, sym}
 use native.Mathlib.Omega.{arith}
 use borrow.Author.Tests.{le-ltb, lt-ltb, ltb-true}

@@ -1,5 +1,7 @@
 // Reading text: places of bytes, decimal numbers, entries, lists by commas, lines and their keys, lower-case hex. Each reader is handed a part of the
 // text, and reads the whole of that part.
+#![tactic(auto)]
+
 mod decimal;
 mod hex;
 mod line;
