@@ -7,9 +7,9 @@ use native.Mathlib.Omega.{arith}
 use borrow.Author.Tests.{le-leb, lt-leb}
 use Rattle.rules.specs.Sizes.{is_log}
 use Rattle.rules.proofs.Sizes.{log_most_lem}
-use Rattle.log.specs.Bar.{bar_of, Refused, bar_number, BarIs}
-use Rattle.log.specs.declared.MeterBar.{MeterBar}
-use Rattle.log.proofs.Bars.{bar_most_lem}
+use Rattle.reading_log.specs.Bar.{bar_of, Refused, bar_number, BarIs}
+use Rattle.reading_log.specs.declared.MeterBar.{MeterBar}
+use Rattle.reading_log.proofs.Bars.{bar_most_lem}
 
 module _ (log : List ℕ) (meter first last : ℕ) where
   pub no_log : (r : MeterBar) → Refused 7 r → is_log log ≡ false → BarIs log meter first last r

@@ -10,16 +10,16 @@ use Rattle.wire.specs.Inbox.{place_of, MessageAt}
 use Rattle.wire.proofs.Cuts.{no_nodes_lem, no_me, ill_cut, heard, too_long, too_short, missing_told, message_told, next_place}
 use borrow.Author.Rules.{rules}
 use Rattle.wire.proofs.inbox.read_inbox.Goals as goal
+use Rattle.wire.proofs.inbox.read_inbox.Goals.{In-Message}
 
-told : (c : tie.After-known-told invariant-loop decreases-loop)
-    → let a = c.before.before.before.before.before.before.before.before.before.before.args in
-    let l = c.before.before.before.before.before.loop in
-    let p = c.before.start.given.0 in
-    Told a.inbox.now l.at p.0 p.1.0
+told : (c : goal.In-Message)
+    → let a = c.args in
+    let l = c.loop-sender in
+    Told a.inbox.now l.at c.in-Message.start c.in-Message.end
 told c =
-    let a = c.before.before.before.before.before.before.before.before.before.before.args in
-    let l = c.before.before.before.before.before.loop in
-    message_told a.inbox.now l.at _ _ (subst (MessageAt a.inbox.now l.at) c.before.start.given.1 c.before.before.before.message-at.ensures)
+    let a = c.args in
+    let l = c.loop-sender in
+    message_told a.inbox.now l.at _ _ (c.in-Message.ensures)
 
 pub returns-then-not-is_sized : goal.returns-then-not-is_sized
 returns-then-not-is_sized c =
@@ -40,35 +40,31 @@ returns-in_default c =
     let a = c.args in
     let l = c.loop-sender in
     let nodes = sym c.is_sized.ensures ∙ c.if-not-is_sized.false in
-    let r = subst (MessageAt a.inbox.now l.at) c.enum_told-1.given.1 c.message_at.ensures in
+    let r = c.in_default.ensures in
     ill_cut a.n a.me a.inbox.now nodes (omega arith)
     (too_short a.n a.inbox.now l.sender (omega arith) (rw l.invariant.2 at (missing_told a.inbox.now l.at r)))
 
 pub slice_bounds-sender_bit-count : goal.slice_bounds-sender_bit-count
-slice_bounds-sender_bit-count c = omega (arith, (told c).start_is, (told c).end_is)
+slice_bounds-sender_bit-count c = omega (arith, (told (goal.at.slice_bounds-sender_bit-count c).In-Message).start_is, (told (goal.at.slice_bounds-sender_bit-count c).In-Message).end_is)
 
--- LEFT: slice-bounds-sender-bit-start
--- part-sender-bit-start : tie.Need-slice-bounds-sender-bit-start invariant-loop decreases-loop
--- part-sender-bit-start c = omega (arith, (told c).start_is, (told c).end_is)
+pub slice_bounds-sender_bit-start : goal.slice_bounds-sender_bit-start
+slice_bounds-sender_bit-start c = omega (arith, (told (goal.at.slice_bounds-sender_bit-start c).In-Message).start_is, (told (goal.at.slice_bounds-sender_bit-start c).In-Message).end_is)
 
--- LEFT: slice-bounds-sender-bit-end
--- part-sender-bit-end : tie.Need-slice-bounds-sender-bit-end invariant-loop decreases-loop
--- part-sender-bit-end c = omega (arith, (told c).end_is, (told c).ranges)
+pub slice_bounds-sender_bit-end : goal.slice_bounds-sender_bit-end
+slice_bounds-sender_bit-end c = omega (arith, (told (goal.at.slice_bounds-sender_bit-end c).In-Message).end_is, (told (goal.at.slice_bounds-sender_bit-end c).In-Message).fits)
 
 pub sender_bit-unreadable-requires : goal.sender_bit-unreadable-requires
 sender_bit-unreadable-requires c =
-    let nodes = sym c.is_sized.ensures ∙ not-false _
-    c.if-not-is_sized.false-raw in
+    let nodes = sym c.is_sized.ensures ∙ c.if-not-is_sized.false in
     (nodes, c.loop-sender-test.true)
 
 pub overflow_add-unreadable : goal.overflow_add-unreadable
 overflow_add-unreadable c =
     let a = c.args in
     let l = c.loop-sender in
-    let nodes = sym c.is_sized.ensures ∙ not-false _
-    c.if-not-is_sized.false-raw in
+    let nodes = sym c.is_sized.ensures ∙ c.if-not-is_sized.false in
     let most = sized_most a.n nodes in
-    let fit = still_fits a.n a.me a.inbox.now l.sender l.at _ _ l.unreadable c.sender_bit-unreadable.result (told c.before.before) l.invariant.2 l.invariant.3
+    let fit = still_fits a.n a.me a.inbox.now l.sender l.at _ _ l.unreadable c.sender_bit-unreadable.result (told (goal.at.overflow_add-unreadable c).In-Message) l.invariant.2 l.invariant.3
     c.sender_bit-unreadable.ensures (omega arith) in
     omega (arith, fit)
 
@@ -76,7 +72,7 @@ pub loop-sender-preserved : goal.loop-sender-preserved
 loop-sender-preserved c =
     let a = c.args in
     let l = c.loop-sender in
-    let t = told c.before.before in
+    let t = told (goal.at.loop-sender-preserved c).In-Message in
     let turn = sender_joins a.n a.me a.inbox.now l.sender l.at _ _ l.unreadable c.sender_bit-unreadable.result t l.invariant.2 l.invariant.3 c.sender_bit-unreadable.ensures in
     (omega arith, omega (arith, t.end_is, t.fits), next_place a.inbox.now l.sender l.at _ l.invariant.2 t.end_is, turn)
 

@@ -27,7 +27,7 @@ overflow_shl-result c = omega (arith, sized_most _ c.requires.0)
 pub returns-in-Votes : goal.returns-in-Votes
 returns-in-Votes c =
     let a = c.args in
-    let r = subst (ReadMessage a.n a.message.now) c.enum_told-1.given.1 c.read_message.ensures in
+    let r = c.in-Votes.ensures in
     let t : is_unreadable a.n a.me a.sender a.message.now ≡ false = simp
     (votes_told a.n a.message.now c.requires.0 _ r, and-false) in
     bit_none _ a.sender t
@@ -36,7 +36,7 @@ pub returns-in-Unreadable : goal.returns-in-Unreadable
 returns-in-Unreadable c =
     let a = c.args in
     let nodes = c.requires.0 in
-    let r = subst (ReadMessage a.n a.message.now) c.enum_told-in-Unreadable-1.given.1 c.read_message.ensures in
+    let r = c.in-Unreadable.ensures in
     let t : is_unreadable a.n a.me a.sender a.message.now ≡ true =
     simp (ne_eqb a.sender a.me c.if-sender-me.false, silent_told a.n a.message.now nodes r) in
     bit_set _ a.sender t (omega (arith, sized_most a.n nodes))
@@ -44,5 +44,5 @@ returns-in-Unreadable c =
 pub returns-in-Refused : goal.returns-in-Refused
 returns-in-Refused c =
     let a = c.args in
-    let r = subst (ReadMessage a.n a.message.now) c.enum_told-in-Refused-1.given.1 c.read_message.ensures in
+    let r = c.in-Refused.ensures in
     absurd (refused_never a.n a.message.now c.requires.0 r)

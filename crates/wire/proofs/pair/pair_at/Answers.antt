@@ -4,24 +4,17 @@ use Prim.Native.Nat.{◌+◌, ◌<◌}
 use lib.ListN.{get_or}
 use borrow.Author.Rules.{rules}
 use Rattle.wire.proofs.pair.pair_at.Goals as goal
+use Rattle.wire.proofs.pair.pair_at.Goals.{Start}
 
-below : (c : tie.After-shared-slice-known2)
-    → let a = c.before.before.args in
+below : (c : goal.Start)
+    → let a = c.args in
     (get_or a.bytes.now a.at 0 < 256) × (get_or a.bytes.now (a.at + 1) 0 < 256)
 below c =
-    let at = c.before.before.args.at in
-    (omega (arith, c.shared-slice-known2.given at), omega (arith, c.shared-slice-known2.given (at + 1)))
-
--- LEFT: overflow-cast-low
--- cast-low : tie.Need-overflow-cast-low
--- cast-low c = omega (arith, c.shared-slice-known.given c.before.args.at)
-
--- LEFT: overflow-cast-high
--- cast-high : tie.Need-overflow-cast-high
--- cast-high c = omega (arith, (below c).1)
+    let at = c.args.at in
+    (omega (arith, c.type_inv.bytes at), omega (arith, c.type_inv.bytes (at + 1)))
 
 pub overflow_mul-result : goal.overflow_mul-result
-overflow_mul-result c = omega (arith, (below c).0, (below c).1)
+overflow_mul-result c = omega (arith, (below (goal.at.overflow_mul-result c).Start).0, (below (goal.at.overflow_mul-result c).Start).1)
 
 pub overflow_add-result : goal.overflow_add-result
-overflow_add-result c = omega (arith, (below c).0, (below c).1)
+overflow_add-result c = omega (arith, (below (goal.at.overflow_add-result c).Start).0, (below (goal.at.overflow_add-result c).Start).1)
