@@ -7,6 +7,7 @@ use Rattle.schedule.proofs.Turns.{sends_bad, sends_end, sends_go, sends_good, se
 use Rattle.schedule.proofs.forms.form_sends.Goals as goal
 use Rattle.schedule.proofs.forms.form_sends.Goals.{After-first_line-line}
 
+-- the line that is read
 here : (c : goal.After-first_line-line)
     → Turn c.args.s.now c.first_line-line.result.now c.loop-at.at
 here c = turn _ _ _ c.loop-at-test.true c.first_line-line.ensures
@@ -19,8 +20,6 @@ overflow_add-k-2 c = omega (arith, c.requires)
 
 pub loop-at-init : goal.loop-at-init
 loop-at-init c = (omega arith, omega (arith, c.requires), refl)
-
--- the line that is read
 
 pub returns-then-rest-line : goal.returns-then-rest-line
 returns-then-rest-line c =
