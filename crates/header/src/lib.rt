@@ -1,4 +1,6 @@
 // The header of a schedule: how many nodes, how many of them may be faulty, and which are.
+#![tactic(auto)]
+
 mod heading;
 
 pub use heading::read_header;

@@ -1,4 +1,6 @@
 // The form of a schedule, checked for the whole file: its sizes, or the number of its first bad line.
+#![tactic(auto)]
+
 mod forms;
 mod sends;
 

@@ -54,9 +54,5 @@ loop-at-preserved c =
     hex_turn a.s.now a.output.now l.output l.i l.at l.invariant (omega arith) _ _ c.digit-high.ensures.0
     c.digit-low.ensures.0
 
--- LEFT: same-length
--- same_length : tie.Need-same-length invariant-loop decreases-loop
--- same_length c = c.before.loop.invariant.kept
-
 pub returns : goal.returns
 returns c = hex_done _ _ _ _ _ c.loop-at.invariant (omega arith)
