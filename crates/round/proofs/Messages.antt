@@ -42,10 +42,10 @@ others_before me v (some vs) h = others_join me v vs
 -- ---- the loop over the records
 
 -- an answer of one of the two other kinds: the record is unreadable, or the number of nodes is refused
-pub not_read : (n : ℕ) (s : List ℕ) (answer : Record) → ReadRecord n s answer → OneOf (1 ∷ 2 ∷ []) (tag_of the_type answer) → sized n ≡ true → unreadable n s ≡ true
-not_read n s (Read p m k x) told kind nodes = absurd (⊎_elim (λ e. omega arith) (λ e. omega arith) kind)
-not_read n s Unreadable told kind nodes = (unreadable_told n s told).1
-not_read n s Refused told kind nodes = absurd (clash nodes (refused_told n s told))
+pub not_read : (n : ℕ) (s : List ℕ) (answer : Record) → ReadRecord n s answer → ((p m k x : ℕ) → answer ≡ Read p m k x → ⊥) → sized n ≡ true → unreadable n s ≡ true
+not_read n s (Read p m k x) told no_vote nodes = absurd (no_vote p m k x refl)
+not_read n s Unreadable told no_vote nodes = (unreadable_told n s told).1
+not_read n s Refused told no_vote nodes = absurd (clash nodes (refused_told n s told))
 
 -- the votes of a message that is readable are taken up
 pub record TakeMessage (n me r : ℕ) (before : List Found) (s : List ℕ) (after : List Found) : Type 0 where

@@ -1,6 +1,6 @@
 -- Before each sender the votes of those below it are taken up, and its message stands at the place reached. Before each record: what takes up the votes
 -- that are left takes up all. A record's vote changes what is found for its primary, if there is room and it is wanted.
-use Prim.Native.Nat.{◌+◌, ◌-◌, ◌≤◌, ◌<◌}
+use Prim.Native.Nat.{ℕ, ◌+◌, ◌-◌, ◌≤◌, ◌<◌}
 use mathlib.Core.Path.{◌≡◌, refl, sym, subst, ◌∙◌}
 use mathlib.Core.Bool.{true}
 use mathlib.Core.Logic.{⊎_elim}
@@ -25,27 +25,25 @@ use Rattle.round.proofs.Messages.{Reached, TakeMessage, at_start as message-star
 use Rattle.round.proofs.Inboxes.{Passed, at_start, is_passed, is_taken, no_message, at_end}
 use borrow.Author.Rules.{rules}
 use Rattle.round.proofs.finding.take_inbox.Goals as goal
-use Rattle.round.proofs.finding.take_inbox.Goals.{In-Message, In-Vote, Joined-has_room, Joined-is_heard}
+use Rattle.round.proofs.finding.take_inbox.Goals.{In-Message, In-Vote, then-has_room+then-is_wanted, then-has_room+else-is_wanted, else-has_room, then-is_heard+else-loop-place-test, then-is_heard+then-loop-place-test+in_default-read_record, else-is_heard}
 
 told : (c : goal.In-Message)
     → let a = c.args in
     let l = c.loop-sender in
-    let p = c.in-Message.start in
-    Told a.inbox.now l.at p.0 p.1.0
+    Told a.inbox.now l.at c.in-Message.start c.in-Message.end
 told c =
     let a = c.args in
     let l = c.loop-sender in
-    message_told a.inbox.now l.at _ _ (c.in-Message.ensures)
+    message_told a.inbox.now l.at _ _ c.in-Message.ensures
 
 -- what the answer tells of a record, in the arm of a vote
 
 vote : (c : goal.In-Vote)
     → let a = c.args in
-    let q = c.in-Message.start in
-    let m = take (q.1.0 - q.0) (drop q.0 a.inbox.now) in
+    let m = take (c.in-Message.end - c.in-Message.start) (drop c.in-Message.start a.inbox.now) in
     let l = c.loop-place in
-    let v = c.in-Vote.primary in
-    Record a.n (drop l.place m) v.0 v.1.0 v.1.1.0 v.1.1.1.0
+    let v = c.in-Vote in
+    Record a.n (drop l.place m) v.primary v.mask v.count v.next
 vote c =
     let a = c.args in
     let r = c.in-Vote.ensures in
@@ -53,85 +51,19 @@ vote c =
 
 within : (c : goal.In-Vote)
     → let a = c.args in
-    let q = c.in-Message.start in
-    let m = take (q.1.0 - q.0) (drop q.0 a.inbox.now) in
+    let m = take (c.in-Message.end - c.in-Message.start) (drop c.in-Message.start a.inbox.now) in
     let l = c.loop-place in
-    let v = c.in-Vote.primary in
-    (4 ≤ v.1.1.1.0) × (v.1.1.1.0 ≤ length m - l.place)
+    let v = c.in-Vote in
+    (4 ≤ v.next) × (v.next ≤ length m - l.place)
 within c =
     let a = c.args in
-    let q = c.in-Message.start in
-    let m = take (q.1.0 - q.0) (drop q.0 a.inbox.now) in
+    let m = take (c.in-Message.end - c.in-Message.start) (drop c.in-Message.start a.inbox.now) in
     let l = c.loop-place in
     ends_within a.n m l.place _ _ _ _ (vote c)
 
-low : (c : goal.In-Vote) → c.in-Vote.primary < 16
-low c =
-    let a = c.args in
-    let t = vote c in
-    omega (arith, t.primary, (readable_whole _ _ t.reads).primary, sized_most a.n t.nodes)
-
--- the vote is taken up
-
-taken_up_lem : (c : goal.Joined-has_room)
-    → let a = c.args in
-    let q = c.in-Message.start in
-    let m = take (q.1.0 - q.0) (drop q.0 a.inbox.now) in
-    let l = c.loop-place in
-    let v = c.in-Vote.primary in
-    Take a.round l.after c.if-has_room.after (others a.me (record { primary = v.0; mask = v.1.0; batch = batch_of (drop l.place m) } ∷ []))
-taken_up_lem c =
-    let a = c.args in
-    let q = c.in-Message.start in
-    let m = take (q.1.0 - q.0) (drop q.0 a.inbox.now) in
-    let l = c.loop-place in
-    let p = c.in-Vote.primary in
-    let s = drop l.place m in
-    let v : Vote = record { primary = p.0; mask = p.1.0; batch = batch_of s } in
-    let h = low c.before.before in
-    let room = c.has_room.ensures in
-    let told-so = vote c.before.before in
-    ⊎_elim
-    (λ w.
-    let b = w.2.ensures ∙ batch_read a.n s _ _ _ _ _ told-so (rw rest_of at w.1.ensures.bytes) in
-    vote_kept a.me a.round l.after _ v h c.if-has_room.after _ room w.0.taken w.2.result b _ w.4.ensures w.5.taken w.6.result w.6.ensures w.7)
-    (⊎_elim
-    (λ w.
-    let b = w.2.ensures ∙ batch_read a.n s _ _ _ _ _ told-so (rw rest_of at w.1.ensures.bytes) in
-    vote_dropped a.me a.round l.after _ v h c.if-has_room.after _ room w.0.taken w.2.result b _ w.4.ensures w.5.left w.6)
-    (λ w. vote_left a.me a.round l.after _ v h c.if-has_room.after _ room w.0.left w.1))
-    c.if-has_room.branch
-
--- the sender is passed
-
-turn : (c : goal.Joined-is_heard)
-    → let a = c.args in
-    let l = c.loop-sender in
-    Passed a.n a.me a.round a.inbox.now a.unreadable a.found c.if-is_heard.after (l.sender + 1)
-turn c =
-    let a = c.args in
-    let l = c.loop-sender in
-    let q = c.in-Message.start in
-    let m = take (q.1.0 - q.0) (drop q.0 a.inbox.now) in
-    let hears = c.is_heard.ensures in
-    let passed : List Found → Type 0 = λ f. Passed a.n a.me a.round a.inbox.now a.unreadable a.found f (l.sender + 1) in
-    let taken : c.is_heard.result ≡ true → (after : List Found) → c.if-is_heard.after ≡ after
-    → TakeMessage a.n a.me a.round l.after m after → passed c.if-is_heard.after =
-    λ so after same t.
-    subst passed (sym same)
-    (is_taken a.n a.me a.round a.inbox.now a.unreadable a.found l.after l.sender l.at l.invariant.2 l.invariant.3 (omega arith)
-    after _ hears so _ _ (told c.before.before) t) in
-    ⊎_elim
-    (λ w. taken w.0.taken w.2.after w.4
-    (message_end a.n a.me a.round m l.after w.2.after w.2.place w.2.inv.1 w.3.left))
-    (⊎_elim
-    (λ w. taken w.0.taken w.2.after w.7
-    (no_vote a.n a.me a.round m l.after w.2.after w.2.place w.2.inv.1 w.3.taken
-    (not_read a.n _ w.5.result (rw rest_of at w.5.ensures) w.6.keys2)))
-    (λ w.
-    is_passed a.n a.me a.round a.inbox.now a.unreadable a.found l.after l.sender l.at l.invariant.2 l.invariant.3 (omega arith)
-    c.if-is_heard.after _ hears w.0.left w.1))
-    c.if-is_heard.branch
+-- a vote's primary is a node
+below : (n : ℕ) (s : List ℕ) (p m k x : ℕ) → Record n s p m k x → p < 16
+below n s p m k x t = omega (arith, t.primary, (readable_whole _ _ t.reads).primary, sized_most n t.nodes)
 
 pub loop-sender-init : goal.loop-sender-init
 unfolding place_of
@@ -162,22 +94,22 @@ loop-place-init c =
     (omega arith, message-start a.n a.me a.round _ c.loop-sender.after)
 
 pub offset_bounds-after-primary : goal.offset_bounds-after-primary
-offset_bounds-after-primary c = let h = low c in omega arith
+offset_bounds-after-primary c = let h = below c.args.n _ _ _ _ _ (vote_told c.args.n _ _ _ _ _ (rw rest_of at c.in-Vote.ensures)) in omega arith
 
 pub bounds-after-primary : goal.bounds-after-primary
-bounds-after-primary c = let h = low c in omega arith
+bounds-after-primary c = let h = below c.args.n _ _ _ _ _ (vote_told c.args.n _ _ _ _ _ (rw rest_of at c.in-Vote.ensures)) in omega arith
 
 pub offset_bounds-after-primary-then-has_room : goal.offset_bounds-after-primary-then-has_room
-offset_bounds-after-primary-then-has_room c = let h = low (goal.at.offset_bounds-after-primary-then-has_room c).In-Vote in omega arith
+offset_bounds-after-primary-then-has_room c = let h = below c.args.n _ _ _ _ _ (vote (goal.at.offset_bounds-after-primary-then-has_room c).In-Vote) in omega arith
 
 pub bounds-after-primary-then-has_room : goal.bounds-after-primary-then-has_room
-bounds-after-primary-then-has_room c = let h = low (goal.at.bounds-after-primary-then-has_room c).In-Vote in omega arith
+bounds-after-primary-then-has_room c = let h = below c.args.n _ _ _ _ _ (vote (goal.at.bounds-after-primary-then-has_room c).In-Vote) in omega arith
 
 pub offset_bounds-after-primary-then-is_wanted : goal.offset_bounds-after-primary-then-is_wanted
-offset_bounds-after-primary-then-is_wanted c = let h = low (goal.at.offset_bounds-after-primary-then-is_wanted c).In-Vote in omega arith
+offset_bounds-after-primary-then-is_wanted c = let h = below c.args.n _ _ _ _ _ (vote (goal.at.offset_bounds-after-primary-then-is_wanted c).In-Vote) in omega arith
 
 pub bounds-after-primary-then-is_wanted : goal.bounds-after-primary-then-is_wanted
-bounds-after-primary-then-is_wanted c = let h = low (goal.at.bounds-after-primary-then-is_wanted c).In-Vote in omega arith
+bounds-after-primary-then-is_wanted c = let h = below c.args.n _ _ _ _ _ (vote (goal.at.bounds-after-primary-then-is_wanted c).In-Vote) in omega arith
 
 pub overflow_add-place : goal.overflow_add-place
 overflow_add-place c = let t = within (goal.at.overflow_add-place c).In-Vote in omega arith
@@ -185,21 +117,61 @@ overflow_add-place c = let t = within (goal.at.overflow_add-place c).In-Vote in 
 pub loop-place-smaller : goal.loop-place-smaller
 loop-place-smaller c = let t = within (goal.at.loop-place-smaller c).In-Vote in omega arith
 
+-- the vote is taken up, kept or dropped
 pub loop-place-preserved : goal.loop-place-preserved
 loop-place-preserved c =
     let a = c.args in
-    let q = c.in-Message.start in
-    let m = take (q.1.0 - q.0) (drop q.0 a.inbox.now) in
+    let m = take (c.in-Message.end - c.in-Message.start) (drop c.in-Message.start a.inbox.now) in
     let l = c.loop-place in
-    let t = within (goal.at.loop-place-preserved c).In-Vote in
-    (omega arith, next_vote a.n a.me a.round m c.loop-sender.after l.after l.place l.invariant.1 _ _ _ _ c.if-has_room.after (vote (goal.at.loop-place-preserved c).In-Vote) (taken_up_lem (goal.at.loop-place-preserved c).Joined-has_room))
+    let s = drop l.place m in
+    let v : Vote = record { primary = c.in-Vote.primary; mask = c.in-Vote.mask; batch = batch_of s } in
+    let its = (goal.at.loop-place-preserved c).In-Vote in
+    let h = below a.n s _ _ _ _ (vote its) in
+    let t = within its in
+    let room = c.has_room.ensures in
+    let told-so = vote its in
+    let taken : Take a.round l.after c.if-has_room.after (others a.me (v ∷ [])) =
+        elim c.if-has_room.branch [
+          | then-has_room+then-is_wanted w ↦
+              let b = w.batch_from-batch.ensures ∙ batch_read a.n s _ _ _ _ _ told-so (rw rest_of at w.batch_bytes.ensures.bytes) in
+              vote_kept a.me a.round l.after _ v h c.if-has_room.after _ room w.if-has_room.true w.batch_from-batch.result b _ w.is_wanted.ensures w.if-is_wanted.true
+              w.keep.result w.keep.ensures w.after-is
+          | then-has_room+else-is_wanted w ↦
+              let b = w.batch_from-batch.ensures ∙ batch_read a.n s _ _ _ _ _ told-so (rw rest_of at w.batch_bytes.ensures.bytes) in
+              vote_dropped a.me a.round l.after _ v h c.if-has_room.after _ room w.if-has_room.true w.batch_from-batch.result b _ w.is_wanted.ensures w.if-is_wanted.false w.after-is
+          | else-has_room w ↦ vote_left a.me a.round l.after _ v h c.if-has_room.after _ room w.if-has_room.false w.after-is
+        ] in
+    (omega arith, next_vote a.n a.me a.round m c.loop-sender.after l.after l.place l.invariant.1 _ _ _ _ c.if-has_room.after told-so taken)
 
+-- the sender is passed
 pub loop-sender-preserved : goal.loop-sender-preserved
 loop-sender-preserved c =
     let a = c.args in
     let l = c.loop-sender in
+    let m = take (c.in-Message.end - c.in-Message.start) (drop c.in-Message.start a.inbox.now) in
     let t = told (goal.at.loop-sender-preserved c).In-Message in
-    (omega arith, omega (arith, t.end_is, t.fits), next_place a.inbox.now l.sender l.at _ l.invariant.2 t.end_is, turn (goal.at.loop-sender-preserved c).Joined-is_heard)
+    let hears = c.is_heard.ensures in
+    let passed : List Found → Type 0 = λ f. Passed a.n a.me a.round a.inbox.now a.unreadable a.found f (l.sender + 1) in
+    let taken : c.is_heard.result ≡ true → (after : List Found) → c.if-is_heard.after ≡ after
+    → TakeMessage a.n a.me a.round l.after m after → passed c.if-is_heard.after =
+    λ so after same r.
+    subst passed (sym same)
+    (is_taken a.n a.me a.round a.inbox.now a.unreadable a.found l.after l.sender l.at l.invariant.2 l.invariant.3 (omega arith)
+    after _ hears so _ _ t r) in
+    let turn : passed c.if-is_heard.after =
+        elim c.if-is_heard.branch [
+          | then-is_heard+else-loop-place-test w ↦
+              taken w.if-is_heard.true w.loop-place.after w.after-is
+              (message_end a.n a.me a.round m l.after w.loop-place.after w.loop-place.place w.loop-place.invariant.1 w.loop-place-test.false)
+          | then-is_heard+then-loop-place-test+in_default-read_record w ↦
+              taken w.if-is_heard.true w.loop-place.after w.after-is
+              (no_vote a.n a.me a.round m l.after w.loop-place.after w.loop-place.place w.loop-place.invariant.1 w.loop-place-test.true
+              (not_read a.n _ w.read_record.result (rw rest_of at w.read_record.ensures) w.in_default-read_record.not-Vote))
+          | else-is_heard w ↦
+              is_passed a.n a.me a.round a.inbox.now a.unreadable a.found l.after l.sender l.at l.invariant.2 l.invariant.3 (omega arith)
+              c.if-is_heard.after _ hears w.if-is_heard.false w.after-is
+        ] in
+    (omega arith, omega (arith, t.end_is, t.fits), next_place a.inbox.now l.sender l.at _ l.invariant.2 t.end_is, turn)
 
 pub returns : goal.returns
 returns c =
