@@ -3,10 +3,9 @@ use mathlib.Core.Path.{refl}
 use Rattle.worked_schedules.proofs.Forms.{forms}
 use Rattle.worked_schedules.proofs.Contents.{document_contents}
 use Rattle.worked_schedules.proofs.Printed.{document_told}
-use Rattle.worked_schedules.proofs.worked_schedules_hold.Statement.{statement}
-use Rattle.worked_schedules.proofs.worked_schedules_hold.Tie as tie
+use Rattle.worked_schedules.proofs.worked_schedules_hold.Goals as goal
 
-returns : tie.Need-returns
+pub returns : goal.returns
 returns c = (
   refl,
   record {
@@ -18,6 +17,3 @@ returns c = (
     prints = document_told.2;
   },
 )
-
-pub worked-schedules-hold-spec : {M : Type 1} → statement M
-worked-schedules-hold-spec = tie.close (tie.spec returns)
