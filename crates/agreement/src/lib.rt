@@ -1,4 +1,6 @@
 // Demand 3 in bytes: of the states, outboxes, logs and counts that the promises of `Node::new`, `open`, `step`, `close` and `signers` name (specs/).
+#![tactic(auto)]
+
 ghost use Rattle.std.specs.Prelude.{◌≡◌, true};
 ghost use Rattle.agreement.specs.Calls.{CallsGive};
 ghost use Rattle.agreement.specs.Claim.{Demand3};

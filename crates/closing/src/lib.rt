@@ -1,4 +1,6 @@
 // The close: the new log is the old log joined with all n decisions.
+#![tactic(auto)]
+
 ghost use Rattle.std.specs.Prelude.{◌≡◌, true, ◌+◌, ◌≤◌, leb};
 ghost use Rattle.rules.specs.Sizes.{log_most, is_log};
 ghost use Rattle.node.specs.State.{sound_node};
@@ -7,8 +9,8 @@ ghost use Rattle.closing.specs.Close.{Close, refused_close};
 mod decisions; // decisions.rt: the entries of all n decisions, gathered once
 mod merging; // merging.rt: entries joined with ascending new ones, in one pass
 
-use reading_log::is_log;
 use node::Node;
+use reading_log::is_log;
 use rules::LOG_MOST;
 
 // A refusal's number or 0, and the length of the new log.

@@ -1,4 +1,6 @@
 // Document 01's worked examples, run. The program's input is a page with a blank for each answer; it copies the page and writes into each blank what a call answered.
+#![tactic(auto)]
+
 mod logs;
 mod page;
 mod records;

@@ -1,4 +1,6 @@
 // What a host program links: each call with a C name, over numbers, structs of fixed layout and slices. Each promises what that call promises.
+#![tactic(auto)]
+
 mod log_calls; // log_calls.rt: the close, the signing count, the bar
 mod node_calls; // node_calls.rt: the tray, the fresh node, the opening, the step
 mod wire_calls; // wire_calls.rt: the reader, the writer, the inbox

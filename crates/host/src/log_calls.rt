@@ -4,8 +4,8 @@ ghost use Rattle.signing.specs.Count.{SignersAre};
 ghost use Rattle.reading_log.specs.Bar.{BarIs};
 
 use closing::Closed;
-use reading_log::MeterBar;
 use node::Node;
+use reading_log::MeterBar;
 use signing::{MARK_SIZE, SigningCount};
 
 // `closing::close`.

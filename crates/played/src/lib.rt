@@ -1,4 +1,6 @@
 // A schedule of good form, played: the rule on shown votes is checked in file order, each send on the states before its round; then the rounds that are left.
+#![tactic(auto)]
+
 mod playing;
 
 use node::Node;

@@ -1,4 +1,6 @@
 // The rehearsal: a schedule's bytes in, the printed text out.
+#![tactic(auto)]
+
 ghost use Rattle.std.specs.Prelude.{◌≡◌, true};
 ghost use Rattle.rehearsal.specs.Claim.{RehearsalsAgree, RehearsalsGranted};
 ghost use Rattle.rehearsal.specs.Rehearsal.{Rehearse, refused_rehearsal};

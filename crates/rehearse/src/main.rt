@@ -1,5 +1,7 @@
 // Reads a schedule from standard input and writes what the rehearsal prints; where that cannot be written, standard error is told so.
 // One byte more than a schedule may have is read, so that a file too long is seen.
+#![tactic(auto)]
+
 fn main() {
     let mut input = [0u8; schedule::SCHEDULE_MOST + 1];
     let got = io::read_full(0, &mut input);

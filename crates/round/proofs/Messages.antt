@@ -1,13 +1,9 @@
 -- A message, record by record: what takes up the votes that are left takes up all, once those before are taken up.
-use Prim.Native.Nat.{ℕ, ◌+◌, ◌-◌, ◌≤◌, ◌<◌}
+use Prim.Native.Nat.{ℕ, ◌+◌, ◌≤◌, ◌<◌}
 use mathlib.Core.Path.{◌≡◌, refl, sym, ap, subst, ◌∙◌}
 use mathlib.Core.Bool.{Bool, true, false, not, cond}
 use mathlib.Core.List.{List, [], ◌∷◌, ◌++◌}
 use mathlib.Core.Option.{Option, none, some}
-use mathlib.Core.Logic.{⊎_elim}
-use native.Mathlib.Omega.{arith}
-use denote.Enum.Declared.{tag_of}
-use types.Run.{OneOf}
 use lib.Dec.{eqb}
 use lib.ListN.{length, drop}
 use Rattle.laws.proofs.Tests.{clash}
@@ -19,7 +15,6 @@ use Rattle.wire.specs.Message.{before, votes_of, silent}
 use Rattle.wire.specs.Reader.{ReadRecord}
 use Rattle.wire.specs.declared.Record.{Record}
 use Rattle.wire.specs.declared.Record.TheVariants.{Vote as Read, Unreadable, Refused}
-use Rattle.wire.specs.contracts.Record.{the_type}
 use Rattle.wire.proofs.Readings.{Told, unreadable_told, refused_told}
 use Rattle.wire.proofs.Messages.{left, all_left, vote_there, next_left, still_heard, none_there, at_last}
 use Rattle.round.specs.Found.{votes_in, Take}

@@ -1,4 +1,6 @@
 // The theorems of the wire: what is written reads back, what is read is written again (specs/).
+#![tactic(auto)]
+
 ghost use Rattle.std.specs.Prelude.{◌≡◌, true};
 ghost use Rattle.roundtrip.specs.Claim.{RoundTrips};
 

@@ -1,4 +1,6 @@
 // Runs that are computed by the very definitions of demand 3 (specs/): its premises can be met, and where one of them fails the claim does.
+#![tactic(auto)]
+
 ghost use Rattle.std.specs.Prelude.{◌≡◌, true};
 ghost use Rattle.runs.specs.Document.{ScheduleRuns};
 ghost use Rattle.runs.specs.Shown.{ShownRuns};

@@ -1,4 +1,6 @@
 // The signing count: which nodes stand behind a log mark, and whether they are enough. A mark is 32 bytes and nothing else here.
+#![tactic(auto)]
+
 mod count;
 mod slot;
 

@@ -1,5 +1,7 @@
 // Where the run of a schedule stands: every correct node is made, opened and stepped by its own calls, every outbox is carried whole to every other node, the
 // faulty nodes send what the schedule says.
+#![tactic(auto)]
+
 mod rounds;
 
 use inboxes::Outbox;

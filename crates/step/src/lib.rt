@@ -1,4 +1,6 @@
 // The round step: the inbox is read by sender, then by record; what is newly kept is passed on.
+#![tactic(auto)]
+
 mod stepping;
 
 use node::Node;

@@ -10,7 +10,7 @@ use native.Mathlib.Numerals.{add-one}
 use native.Mathlib.Omega.{arith}
 use borrow.Author.Tests.{le-leb, lt-leb, leb-true, leb-false, lt-ltb, le-ltb, eq-eqb, ne_eqb}
 use lib.Dec.{leb}
-use lib.ListN.{length, get_or, take, drop}
+use lib.ListN.{length, take, drop}
 use Rattle.laws.specs.Masks.{as_bit, mask_of}
 use Rattle.laws.proofs.Tests.{zero_one}
 use Rattle.laws.proofs.Bits.{mask_turn, mask_fits, one_shifted}

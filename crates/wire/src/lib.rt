@@ -1,5 +1,7 @@
 // Every byte between nodes: a vote as a record, records as a message, messages as an inbox. Whatever is handed in is read as
 // something or refused, and where a call is refused nothing is written.
+#![tactic(auto)]
+
 mod inbox;
 mod mask;
 mod pair;

@@ -1,4 +1,6 @@
 // Document 01's worked examples P1 to P11, each from literal bytes to a call's whole answer: one list of tests under one claim (specs/).
+#![tactic(auto)]
+
 ghost use Rattle.std.specs.Prelude.{◌≡◌, true};
 ghost use Rattle.worked.specs.Claim.{WorkedExamples};
 

@@ -1,10 +1,8 @@
 -- Each refusal is one row; what has passed these is a close to be made.
 use mathlib.Core.Path.{sym, ◌∙◌}
 use native.Mathlib.Omega.{arith}
-use borrow.Author.Tests.{not-true, not-false}
 use Rattle.node.proofs.Sound.{sound_sizes}
-use Rattle.closing.proofs.Answers.{unsound_state, too_soon, no_log, close_length}
-use borrow.Author.Rules.{rules}
+use Rattle.closing.proofs.Answers.{unsound_state, too_soon, no_log}
 use Rattle.closing.proofs.close.Goals as goal
 
 pub returns-then-not-is_sound : goal.returns-then-not-is_sound
@@ -32,12 +30,11 @@ returns-then-not-is_log c =
     no_log a.node a.old.now a.output.now sound (omega arith) (sym c.is_log.ensures ∙ c.if-not-is_log.true) _ c.refused-then-not-is_log.ensures
 
 pub join_all-requires : goal.join_all-requires
-join_all-requires c =
-    (
-      sym c.is_sound.ensures ∙ c.if-not-is_sound.false,
-      omega arith,
-      sym c.is_log.ensures ∙ c.if-not-is_log.false,
-    )
+join_all-requires c = (
+  sym c.is_sound.ensures ∙ c.if-not-is_sound.false,
+  omega arith,
+  sym c.is_log.ensures ∙ c.if-not-is_log.false,
+)
 
 pub returns : goal.returns
 returns c = c.join_all.ensures

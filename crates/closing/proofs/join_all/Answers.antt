@@ -1,9 +1,8 @@
 -- What is gathered, joined with the old log, is the new log; it is written where it is a log and there is room.
 use mathlib.Core.Path.{sym, ◌∙◌}
 use native.Mathlib.Omega.{arith}
-use borrow.Author.Tests.{not-true, not-false, leb-true, leb-false}
+use borrow.Author.Tests.{leb-true, leb-false}
 use Rattle.closing.proofs.Answers.{gathered_most, gathered_length, mergeable, exceeds, too_short, closes}
-use borrow.Author.Rules.{rules}
 use Rattle.closing.proofs.join_all.Goals as goal
 
 pub gather-gathered-requires : goal.gather-gathered-requires

@@ -4,13 +4,11 @@ use mathlib.Core.Path.{◌≡◌, sym}
 use native.Mathlib.Omega.{arith}
 use lib.ListN.{length, replicate, length-replicate}
 use lib.Seq.{length-take-le}
-use borrow.Author.Rules.{rules}
 use Rattle.report.specs.Report.{text_most}
 use Rattle.rehearsal.proofs.Tellings.{too_short, written}
 use Rattle.rehearsal.proofs.rehearsal.Goals as goal
 
 -- by the law: counting 98,304 zeros takes seconds
-
 blank : length {A = ℕ} (replicate text_most 0) ≡ text_most
 blank = length-replicate {A = ℕ} text_most 0
 

@@ -1,9 +1,7 @@
 -- Each answer is one law of the sizes; f is below n, so at most 16, where it is doubled.
 use mathlib.Core.Path.{sym, ◌∙◌}
 use native.Mathlib.Omega.{arith}
-use borrow.Author.Tests.{not-true, not-false}
 use Rattle.rules.proofs.Sizes.{sized_most, not_nodes, half_faulty_lem, majority}
-use borrow.Author.Rules.{rules}
 use Rattle.rules.proofs.are_sizes.Goals as goal
 
 pub returns-then-not-is_sized : goal.returns-then-not-is_sized

@@ -1,9 +1,7 @@
 -- The place is never beyond the end, and a store keeps the length.
-use Prim.Native.Nat.{◌-◌, ◌≤◌}
-use mathlib.Core.Path.{◌≡◌, refl, ◌∙◌}
+use mathlib.Core.Path.{refl, ◌∙◌}
 use native.Mathlib.Omega.{arith}
-use lib.ListN.{length, length-set}
-use borrow.Author.Rules.{rules}
+use lib.ListN.{length-set}
 use Rattle.examples.proofs.logs.fill.Goals as goal
 
 pub loop-i-init : goal.loop-i-init

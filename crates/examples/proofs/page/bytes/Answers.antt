@@ -1,8 +1,5 @@
 -- The place is never beyond the end.
-use Prim.Native.Nat.{◌-◌, ◌≤◌}
-use lib.ListN.{length}
 use native.Mathlib.Omega.{arith}
-use borrow.Author.Rules.{rules}
 use Rattle.examples.proofs.page.bytes.Goals as goal
 
 pub loop-i-init : goal.loop-i-init

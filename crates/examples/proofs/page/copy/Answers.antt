@@ -1,6 +1,5 @@
 -- Each turn copies a byte, and no more are copied than a blank may have before it.
 use native.Mathlib.Omega.{arith}
-use borrow.Author.Rules.{rules}
 use Rattle.examples.proofs.page.copy.Goals as goal
 
 pub loop-left-init : goal.loop-left-init

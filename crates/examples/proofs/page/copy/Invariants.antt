@@ -1,5 +1,3 @@
-use native.Mathlib.Omega.{arith}
-use borrow.Author.Rules.{rules}
 use Rattle.examples.proofs.page.copy.Given as goal
 
 abbrev pub invariant-loop-left : goal.invariant-loop-left

@@ -1,7 +1,5 @@
 use Prim.Native.Nat.{◌-◌, ◌≤◌}
 use lib.ListN.{length}
-use native.Mathlib.Omega.{arith}
-use borrow.Author.Rules.{rules}
 use Rattle.examples.proofs.page.entries.Given as goal
 
 abbrev pub invariant-loop-i : goal.invariant-loop-i

@@ -8,12 +8,10 @@ use Prim.Native.Nat.{◌≤◌}
 use Rattle.contents.specs.Contents.{message_for}
 use Rattle.shown.specs.Shown.{breaks}
 use Rattle.inboxes.proofs.Messages.{put_whole}
-use borrow.Author.Rules.{rules}
 use Rattle.played.proofs.playing.breaks_send.Goals as goal
 use Rattle.played.proofs.playing.breaks_send.Goals.{After-message_into-size}
 
 -- what the buffer holds
-
 read : (c : goal.After-message_into-size) → let a = c.args in let after = c.message_into-size.new.output in
     (c.message_into-size.result ≤ length after) × (take c.message_into-size.result after ≡ message_for a.s.now a.round a.from a.to)
 read c = put_whole _ _ _ _ (omega (arith, c.requires)) c.message_into-size.ensures

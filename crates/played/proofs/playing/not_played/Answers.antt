@@ -2,7 +2,6 @@
 use mathlib.Core.Path.{ap}
 use Rattle.standing.specs.declared.Standing.{Standing}
 use Rattle.played.specs.declared.Played.{Played}
-use borrow.Author.Rules.{rules}
 use Rattle.played.proofs.playing.not_played.Goals as goal
 
 pub returns : goal.returns

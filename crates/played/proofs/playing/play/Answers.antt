@@ -2,7 +2,6 @@
 use mathlib.Core.Path.{sym, ap₂, ◌∙◌}
 use Rattle.schedule.specs.declared.Form.TheVariants.{Good}
 use Rattle.played.proofs.Breaches.{is_good, other_nodes, other_faults, bad_form}
-use borrow.Author.Rules.{rules}
 use Rattle.played.proofs.playing.play.Goals as goal
 
 pub returns-then-nodes-n : goal.returns-then-nodes-n

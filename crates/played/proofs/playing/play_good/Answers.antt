@@ -1,20 +1,17 @@
 -- Before turn k no send before the k-th breaks the rule, and the run stands before a round that is not after the k-th send's.
-use Prim.Native.Nat.{◌+◌, ◌-◌, ◌≤◌, ◌<◌}
+use Prim.Native.Nat.{◌<◌}
 use mathlib.Core.Path.{◌≡◌, sym, ap, ◌∙◌}
 use native.Mathlib.Omega.{arith}
 use lib.ListN.{length}
 use Rattle.agreement.specs.Rule.{breaks_rule}
-use Rattle.schedule.specs.declared.Sending.TheVariants.{Sent}
-use Rattle.contents.specs.Contents.{sends_of, sending_at}
+use Rattle.contents.specs.Contents.{sends_of}
 use Rattle.standing.specs.Standing.{standing}
 use Rattle.standing.specs.Run.{hall_of}
-use Rattle.played.specs.Playing.{breach}
 use Rattle.standing.specs.declared.Standing.{Standing}
 use Rattle.contents.proofs.Found.{message_size}
 use Rattle.played.proofs.Sends.{send_at, sent_numbers, never_none, send_fits, send_rounds, send_few}
 use Rattle.standing.proofs.Standings.{starts, stands_there, nodes_above, nodes_most_lem}
-use Rattle.played.proofs.Breaches.{left, at_first, breaks_here, breaks_later, none_left, rule_told, is_breach, is_played}
-use borrow.Author.Rules.{rules}
+use Rattle.played.proofs.Breaches.{at_first, breaks_here, breaks_later, none_left, rule_told, is_breach, is_played}
 use Rattle.played.proofs.playing.play_good.Goals as goal
 use Rattle.played.proofs.playing.play_good.Goals.{After-advance_to-before, After-breaks_send, In-Sent}
 

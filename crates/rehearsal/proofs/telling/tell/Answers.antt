@@ -1,7 +1,6 @@
 -- The form decides: a bad line is told by its number, a good schedule is played.
-use mathlib.Core.Path.{sym, ◌∙◌}
+use mathlib.Core.Path.{sym}
 use native.Mathlib.Omega.{arith}
-use borrow.Author.Rules.{rules}
 use Rattle.rehearsal.proofs.Tellings.{good_told, bad_told}
 use Rattle.rehearsal.proofs.telling.tell.Goals as goal
 

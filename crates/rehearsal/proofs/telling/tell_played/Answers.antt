@@ -1,6 +1,5 @@
 -- A breach is told by its line; else what was played is what the report asks for.
 use native.Mathlib.Omega.{arith}
-use borrow.Author.Rules.{rules}
 use Rattle.played.specs.Playing.{breach}
 use Rattle.rehearsal.specs.Rehearsal.{played_text}
 use Rattle.rehearsal.proofs.Tellings.{bad_tells, broken, report_tells}

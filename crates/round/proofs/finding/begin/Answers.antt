@@ -1,11 +1,8 @@
 -- Before turn p the places below p hold what is kept for their primaries, and no masks.
-use Prim.Native.Nat.{◌-◌, ◌≤◌}
 use mathlib.Core.Path.{◌≡◌, refl, ◌∙◌}
 use native.Mathlib.Omega.{arith}
-use lib.ListN.{length, length-set}
-use Rattle.rules.specs.Sizes.{nodes_most}
-use Rattle.round.proofs.Starts.{Filled, one_filled, all_filled}
-use borrow.Author.Rules.{rules}
+use lib.ListN.{length-set}
+use Rattle.round.proofs.Starts.{one_filled, all_filled}
 use Rattle.round.proofs.finding.begin.Goals as goal
 
 pub loop-p-init : goal.loop-p-init

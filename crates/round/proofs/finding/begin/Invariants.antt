@@ -1,10 +1,8 @@
 use Prim.Native.Nat.{◌-◌, ◌≤◌}
-use mathlib.Core.Path.{◌≡◌, refl, ◌∙◌}
-use native.Mathlib.Omega.{arith}
-use lib.ListN.{length, length-set}
+use mathlib.Core.Path.{◌≡◌}
+use lib.ListN.{length}
 use Rattle.rules.specs.Sizes.{nodes_most}
-use Rattle.round.proofs.Starts.{Filled, one_filled, all_filled}
-use borrow.Author.Rules.{rules}
+use Rattle.round.proofs.Starts.{Filled}
 use Rattle.round.proofs.finding.begin.Given as goal
 
 abbrev pub invariant-loop-p : goal.invariant-loop-p

@@ -3,7 +3,6 @@
 use Prim.Native.Nat.{ℕ, ◌+◌, ◌-◌, ◌≤◌, ◌<◌}
 use mathlib.Core.Path.{◌≡◌, refl, sym, subst, ◌∙◌}
 use mathlib.Core.Bool.{true}
-use mathlib.Core.Logic.{⊎_elim}
 use mathlib.Core.List.{List, [], ◌∷◌}
 use native.Mathlib.Omega.{arith}
 use lib.ListN.{length, take, drop}
@@ -13,20 +12,19 @@ use Rattle.rules.specs.Vote.{Vote}
 use Rattle.rules.specs.Step.{others}
 use Rattle.rules.proofs.Sizes.{sized_most}
 use Rattle.wire.specs.Record.{batch_of}
-use Rattle.wire.specs.Reader.{ReadRecord}
-use Rattle.wire.specs.Inbox.{place_of, MessageAt}
+use Rattle.wire.specs.Inbox.{place_of}
 use Rattle.wire.proofs.Readings.{Told as Record, vote_told, readable_whole}
 use Rattle.wire.proofs.Cuts.{Told, message_told, missing_told, next_place}
 use Rattle.round.specs.Found.{Take}
 use Rattle.keeping.specs.declared.Found.{Found}
 use Rattle.round.proofs.Takes.{vote_left, vote_kept, vote_dropped}
 use Rattle.wire.proofs.Messages.{ends_within}
-use Rattle.round.proofs.Messages.{Reached, TakeMessage, at_start as message-start, next_vote, not_read, no_vote, at_end as message_end}
+use Rattle.round.proofs.Messages.{TakeMessage, at_start as message-start, next_vote, not_read, no_vote, at_end as message_end}
 use Rattle.round.proofs.Inboxes.{Passed, at_start, is_passed, is_taken, no_message, at_end}
-use borrow.Author.Rules.{rules}
 use Rattle.round.proofs.finding.take_inbox.Goals as goal
 use Rattle.round.proofs.finding.take_inbox.Goals.{In-Message, In-Vote, then-has_room+then-is_wanted, then-has_room+else-is_wanted, else-has_room, then-is_heard+else-loop-place-test, then-is_heard+then-loop-place-test+in_default-read_record, else-is_heard}
 
+-- what the answer tells of the message at the place reached
 told : (c : goal.In-Message)
     → let a = c.args in
     let l = c.loop-sender in
@@ -37,7 +35,6 @@ told c =
     message_told a.inbox.now l.at _ _ c.in-Message.ensures
 
 -- what the answer tells of a record, in the arm of a vote
-
 vote : (c : goal.In-Vote)
     → let a = c.args in
     let m = take (c.in-Message.end - c.in-Message.start) (drop c.in-Message.start a.inbox.now) in
@@ -129,19 +126,19 @@ loop-place-preserved c =
     let h = below a.n s _ _ _ _ (vote its) in
     let t = within its in
     let room = c.has_room.ensures in
-    let told-so = vote its in
+    let told_so = vote its in
     let taken : Take a.round l.after c.if-has_room.after (others a.me (v ∷ [])) =
-        elim c.if-has_room.branch [
-          | then-has_room+then-is_wanted w ↦
-              let b = w.batch_from-batch.ensures ∙ batch_read a.n s _ _ _ _ _ told-so (rw rest_of at w.batch_bytes.ensures.bytes) in
-              vote_kept a.me a.round l.after _ v h c.if-has_room.after _ room w.if-has_room.true w.batch_from-batch.result b _ w.is_wanted.ensures w.if-is_wanted.true
-              w.keep.result w.keep.ensures w.after-is
-          | then-has_room+else-is_wanted w ↦
-              let b = w.batch_from-batch.ensures ∙ batch_read a.n s _ _ _ _ _ told-so (rw rest_of at w.batch_bytes.ensures.bytes) in
-              vote_dropped a.me a.round l.after _ v h c.if-has_room.after _ room w.if-has_room.true w.batch_from-batch.result b _ w.is_wanted.ensures w.if-is_wanted.false w.after-is
-          | else-has_room w ↦ vote_left a.me a.round l.after _ v h c.if-has_room.after _ room w.if-has_room.false w.after-is
-        ] in
-    (omega arith, next_vote a.n a.me a.round m c.loop-sender.after l.after l.place l.invariant.1 _ _ _ _ c.if-has_room.after told-so taken)
+    elim c.if-has_room.branch [
+      | then-has_room+then-is_wanted w ↦
+          let b = w.batch_from-batch.ensures ∙ batch_read a.n s _ _ _ _ _ told_so (rw rest_of at w.batch_bytes.ensures.bytes) in
+          vote_kept a.me a.round l.after _ v h c.if-has_room.after _ room w.if-has_room.true w.batch_from-batch.result b _ w.is_wanted.ensures w.if-is_wanted.true
+          w.keep.result w.keep.ensures w.after-is
+      | then-has_room+else-is_wanted w ↦
+          let b = w.batch_from-batch.ensures ∙ batch_read a.n s _ _ _ _ _ told_so (rw rest_of at w.batch_bytes.ensures.bytes) in
+          vote_dropped a.me a.round l.after _ v h c.if-has_room.after _ room w.if-has_room.true w.batch_from-batch.result b _ w.is_wanted.ensures w.if-is_wanted.false w.after-is
+      | else-has_room w ↦ vote_left a.me a.round l.after _ v h c.if-has_room.after _ room w.if-has_room.false w.after-is
+    ] in
+    (omega arith, next_vote a.n a.me a.round m c.loop-sender.after l.after l.place l.invariant.1 _ _ _ _ c.if-has_room.after told_so taken)
 
 -- the sender is passed
 pub loop-sender-preserved : goal.loop-sender-preserved
@@ -159,18 +156,18 @@ loop-sender-preserved c =
     (is_taken a.n a.me a.round a.inbox.now a.unreadable a.found l.after l.sender l.at l.invariant.2 l.invariant.3 (omega arith)
     after _ hears so _ _ t r) in
     let turn : passed c.if-is_heard.after =
-        elim c.if-is_heard.branch [
-          | then-is_heard+else-loop-place-test w ↦
-              taken w.if-is_heard.true w.loop-place.after w.after-is
-              (message_end a.n a.me a.round m l.after w.loop-place.after w.loop-place.place w.loop-place.invariant.1 w.loop-place-test.false)
-          | then-is_heard+then-loop-place-test+in_default-read_record w ↦
-              taken w.if-is_heard.true w.loop-place.after w.after-is
-              (no_vote a.n a.me a.round m l.after w.loop-place.after w.loop-place.place w.loop-place.invariant.1 w.loop-place-test.true
-              (not_read a.n _ w.read_record.result (rw rest_of at w.read_record.ensures) w.in_default-read_record.not-Vote))
-          | else-is_heard w ↦
-              is_passed a.n a.me a.round a.inbox.now a.unreadable a.found l.after l.sender l.at l.invariant.2 l.invariant.3 (omega arith)
-              c.if-is_heard.after _ hears w.if-is_heard.false w.after-is
-        ] in
+    elim c.if-is_heard.branch [
+      | then-is_heard+else-loop-place-test w ↦
+          taken w.if-is_heard.true w.loop-place.after w.after-is
+          (message_end a.n a.me a.round m l.after w.loop-place.after w.loop-place.place w.loop-place.invariant.1 w.loop-place-test.false)
+      | then-is_heard+then-loop-place-test+in_default-read_record w ↦
+          taken w.if-is_heard.true w.loop-place.after w.after-is
+          (no_vote a.n a.me a.round m l.after w.loop-place.after w.loop-place.place w.loop-place.invariant.1 w.loop-place-test.true
+          (not_read a.n _ w.read_record.result (rw rest_of at w.read_record.ensures) w.in_default-read_record.not-Vote))
+      | else-is_heard w ↦
+          is_passed a.n a.me a.round a.inbox.now a.unreadable a.found l.after l.sender l.at l.invariant.2 l.invariant.3 (omega arith)
+          c.if-is_heard.after _ hears w.if-is_heard.false w.after-is
+    ] in
     (omega arith, omega (arith, t.end_is, t.fits), next_place a.inbox.now l.sender l.at _ l.invariant.2 t.end_is, turn)
 
 pub returns : goal.returns

@@ -1,27 +1,9 @@
-use Prim.Native.Nat.{◌+◌, ◌-◌, ◌≤◌, ◌<◌}
-use mathlib.Core.Path.{◌≡◌, refl, sym, subst, ◌∙◌}
-use mathlib.Core.Bool.{true}
-use mathlib.Core.Logic.{⊎_elim}
-use mathlib.Core.List.{List, [], ◌∷◌}
-use native.Mathlib.Omega.{arith}
-use lib.ListN.{length, take, drop}
-use Rattle.node.proofs.Lists.{batch_read}
-use Rattle.laws.proofs.Lent.{rest_of}
-use Rattle.rules.specs.Vote.{Vote}
-use Rattle.rules.specs.Step.{others}
-use Rattle.rules.proofs.Sizes.{sized_most}
-use Rattle.wire.specs.Record.{batch_of}
-use Rattle.wire.specs.Reader.{ReadRecord}
-use Rattle.wire.specs.Inbox.{place_of, MessageAt}
-use Rattle.wire.proofs.Readings.{Told as Record, vote_told, readable_whole}
-use Rattle.wire.proofs.Cuts.{Told, message_told, missing_told, next_place}
-use Rattle.round.specs.Found.{Take}
-use Rattle.keeping.specs.declared.Found.{Found}
-use Rattle.round.proofs.Takes.{vote_left, vote_kept, vote_dropped}
-use Rattle.wire.proofs.Messages.{ends_within}
-use Rattle.round.proofs.Messages.{Reached, TakeMessage, at_start as message-start, next_vote, not_read, no_vote, at_end as message_end}
-use Rattle.round.proofs.Inboxes.{Passed, at_start, is_passed, is_taken, no_message, at_end}
-use borrow.Author.Rules.{rules}
+use Prim.Native.Nat.{◌-◌, ◌≤◌}
+use mathlib.Core.Path.{◌≡◌}
+use lib.ListN.{length}
+use Rattle.wire.specs.Inbox.{place_of}
+use Rattle.round.proofs.Messages.{Reached}
+use Rattle.round.proofs.Inboxes.{Passed}
 use Rattle.round.proofs.finding.take_inbox.Given as goal
 
 abbrev pub invariant-loop-place : goal.invariant-loop-place

@@ -3,7 +3,6 @@ use mathlib.Core.Path.{refl}
 use native.Mathlib.Omega.{arith}
 use lib.Count.{ones-le}
 use Rattle.rules.specs.Signers.{enough}
-use borrow.Author.Rules.{rules}
 use Rattle.signing.proofs.count.are_enough.Goals as goal
 
 pub overflow_cast-result : goal.overflow_cast-result

@@ -2,7 +2,6 @@
 use mathlib.Core.Path.{refl, sym, ◌∙◌}
 use native.Mathlib.Omega.{arith}
 use Rattle.signing.proofs.Slots.{own_signs, other_signs}
-use borrow.Author.Rules.{rules}
 use Rattle.signing.proofs.count.is_signer.Goals as goal
 
 pub returns-then-j-me : goal.returns-then-j-me

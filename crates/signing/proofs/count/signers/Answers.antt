@@ -1,10 +1,9 @@
 -- Each answer is one law; the sizes keep every number small.
 use mathlib.Core.Path.{sym, ◌∙◌}
 use native.Mathlib.Omega.{arith}
-use borrow.Author.Tests.{not-true, not-false, eqb-true}
+use borrow.Author.Tests.{eqb-true}
 use Rattle.rules.proofs.Sizes.{sizes_told}
 use Rattle.signing.proofs.Answers.{no_sizes, no_slots, too_few, found}
-use borrow.Author.Rules.{rules}
 use Rattle.signing.proofs.count.signers.Goals as goal
 
 pub returns-then-not-are_sizes : goal.returns-then-not-are_sizes

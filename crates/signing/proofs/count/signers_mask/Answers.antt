@@ -1,5 +1,5 @@
 -- Before turn j the mask is that of the signers among 0 to j - 1.
-use Prim.Native.Nat.{◌-◌, ◌≤◌, ◌<◌}
+use Prim.Native.Nat.{◌<◌}
 use mathlib.Core.Path.{◌≡◌, refl, ap, ◌∙◌}
 use native.Mathlib.Omega.{arith}
 use Rattle.laws.specs.Masks.{mask_of}
@@ -7,7 +7,6 @@ use Rattle.laws.proofs.Bits.{shifted_bit, mask_turn, mask_fits}
 use Rattle.rules.specs.Sizes.{nodes_most}
 use Rattle.rules.specs.Signers.{signer, signers_of}
 use Rattle.signing.specs.Slots.{slot_of}
-use borrow.Author.Rules.{rules}
 use Rattle.signing.proofs.count.signers_mask.Goals as goal
 
 pub loop-j-init : goal.loop-j-init

@@ -1,12 +1,8 @@
-use Prim.Native.Nat.{◌-◌, ◌≤◌, ◌<◌}
-use mathlib.Core.Path.{◌≡◌, refl, ap, ◌∙◌}
-use native.Mathlib.Omega.{arith}
+use Prim.Native.Nat.{◌-◌, ◌≤◌}
+use mathlib.Core.Path.{◌≡◌}
 use Rattle.laws.specs.Masks.{mask_of}
-use Rattle.laws.proofs.Bits.{shifted_bit, mask_turn, mask_fits}
-use Rattle.rules.specs.Sizes.{nodes_most}
-use Rattle.rules.specs.Signers.{signer, signers_of}
+use Rattle.rules.specs.Signers.{signer}
 use Rattle.signing.specs.Slots.{slot_of}
-use borrow.Author.Rules.{rules}
 use Rattle.signing.proofs.count.signers_mask.Given as goal
 
 abbrev pub invariant-loop-j : goal.invariant-loop-j

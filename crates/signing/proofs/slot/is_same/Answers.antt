@@ -1,13 +1,8 @@
 -- Whether the whole marks are equal is whether all passed is equal and the rests are.
-use Prim.Native.Nat.{◌-◌, ◌≤◌}
-use mathlib.Core.Path.{◌≡◌, refl, sym, ◌∙◌}
-use mathlib.Core.Bool.{◌&&◌}
+use mathlib.Core.Path.{refl, sym, ◌∙◌}
 use native.Mathlib.Omega.{arith}
-use lib.ListN.{length, drop}
-use Rattle.laws.specs.Members.{same}
 use Rattle.laws.proofs.Equal.{unlike_long}
 use Rattle.signing.proofs.Marks.{one_joins, all_joined}
-use borrow.Author.Rules.{rules}
 use Rattle.signing.proofs.slot.is_same.Goals as goal
 
 pub returns-then-mark-other : goal.returns-then-mark-other

@@ -1,12 +1,8 @@
 use Prim.Native.Nat.{◌-◌, ◌≤◌}
-use mathlib.Core.Path.{◌≡◌, refl, sym, ◌∙◌}
+use mathlib.Core.Path.{◌≡◌}
 use mathlib.Core.Bool.{◌&&◌}
-use native.Mathlib.Omega.{arith}
 use lib.ListN.{length, drop}
 use Rattle.laws.specs.Members.{same}
-use Rattle.laws.proofs.Equal.{unlike_long}
-use Rattle.signing.proofs.Marks.{one_joins, all_joined}
-use borrow.Author.Rules.{rules}
 use Rattle.signing.proofs.slot.is_same.Given as goal
 
 abbrev pub invariant-loop-i : goal.invariant-loop-i

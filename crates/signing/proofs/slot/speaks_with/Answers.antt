@@ -2,7 +2,6 @@
 use mathlib.Core.Path.{sym, ◌∙◌}
 use native.Mathlib.Omega.{arith}
 use Rattle.signing.proofs.Slots.{silence, speech}
-use borrow.Author.Rules.{rules}
 use Rattle.signing.proofs.slot.speaks_with.Goals as goal
 
 pub returns-then-slot-ne-SPEAKING : goal.returns-then-slot-ne-SPEAKING

@@ -1,5 +1,5 @@
 -- Before turn i the places below i hold the nodes after the round.
-use Prim.Native.Nat.{◌+◌, ◌-◌, ◌≤◌}
+use Prim.Native.Nat.{◌+◌}
 use mathlib.Core.Path.{◌≡◌, refl, ap, ◌∙◌}
 use mathlib.Core.List.{[]}
 use native.Mathlib.Omega.{arith}
@@ -7,11 +7,10 @@ use lib.ListN.{length, length-set}
 use Rattle.rules.specs.Sizes.{nodes_most}
 use Rattle.inboxes.specs.Inboxes.{outbox_of}
 use Rattle.standing.specs.Standing.{nobody, stood_at}
-use Rattle.standing.specs.Run.{Reached, hall_of}
+use Rattle.standing.specs.Run.{hall_of}
 use Rattle.standing.specs.declared.Standing.{Standing}
 use Rattle.standing.specs.declared.Stood.{Stood}
-use Rattle.standing.proofs.Filled.{Filled, one_filled, all_filled}
-use borrow.Author.Rules.{rules}
+use Rattle.standing.proofs.Filled.{one_filled, all_filled}
 use Rattle.standing.proofs.rounds.advance.Goals as goal
 
 pub loop-i-init : goal.loop-i-init

@@ -1,16 +1,12 @@
 use Prim.Native.Nat.{◌+◌, ◌-◌, ◌≤◌}
-use mathlib.Core.Path.{◌≡◌, refl, ap, ◌∙◌}
+use mathlib.Core.Path.{◌≡◌}
 use mathlib.Core.List.{[]}
-use native.Mathlib.Omega.{arith}
-use lib.ListN.{length, length-set}
+use lib.ListN.{length}
 use Rattle.rules.specs.Sizes.{nodes_most}
 use Rattle.inboxes.specs.Inboxes.{outbox_of}
 use Rattle.standing.specs.Standing.{nobody, stood_at}
 use Rattle.standing.specs.Run.{Reached, hall_of}
-use Rattle.standing.specs.declared.Standing.{Standing}
-use Rattle.standing.specs.declared.Stood.{Stood}
-use Rattle.standing.proofs.Filled.{Filled, one_filled, all_filled}
-use borrow.Author.Rules.{rules}
+use Rattle.standing.proofs.Filled.{Filled}
 use Rattle.standing.proofs.rounds.advance.Given as goal
 
 abbrev pub invariant-loop-i : goal.invariant-loop-i

@@ -1,11 +1,9 @@
 -- The run stands before its next round, round after round.
-use Prim.Native.Nat.{◌-◌, ◌≤◌}
 use mathlib.Core.Path.{ap, ◌∙◌}
 use native.Mathlib.Omega.{arith}
 use Rattle.standing.specs.Standing.{standing}
-use Rattle.standing.specs.Run.{Reached, hall_of}
+use Rattle.standing.specs.Run.{hall_of}
 use Rattle.standing.proofs.Standings.{stands_there}
-use borrow.Author.Rules.{rules}
 use Rattle.standing.proofs.rounds.advance_to.Goals as goal
 
 pub loop-at-init : goal.loop-at-init

@@ -1,10 +1,5 @@
 use Prim.Native.Nat.{◌-◌, ◌≤◌}
-use mathlib.Core.Path.{ap, ◌∙◌}
-use native.Mathlib.Omega.{arith}
-use Rattle.standing.specs.Standing.{standing}
-use Rattle.standing.specs.Run.{Reached, hall_of}
-use Rattle.standing.proofs.Standings.{stands_there}
-use borrow.Author.Rules.{rules}
+use Rattle.standing.specs.Run.{Reached}
 use Rattle.standing.proofs.rounds.advance_to.Given as goal
 
 abbrev pub invariant-loop-at : goal.invariant-loop-at

@@ -1,7 +1,6 @@
 -- One law for each answer: the number is no node's or a faulty node's, or the node opens, or it steps.
 use native.Mathlib.Omega.{arith}
 use Rattle.standing.proofs.Standings.{nodes_most_lem, beyond_all, is_faulty_lem, opens, steps}
-use borrow.Author.Rules.{rules}
 use Rattle.standing.proofs.rounds.next_node.Goals as goal
 
 pub returns-then-n-i : goal.returns-then-n-i

@@ -1,6 +1,5 @@
 -- The calls of a node's course, with its tray and a whole message's room.
 use Rattle.standing.proofs.Stands.{opened_stands}
-use borrow.Author.Rules.{rules}
 use Rattle.standing.proofs.rounds.open_node.Goals as goal
 
 pub returns : goal.returns

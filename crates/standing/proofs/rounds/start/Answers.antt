@@ -3,7 +3,6 @@ use mathlib.Core.Path.{ap}
 use lib.ListN.{replicate}
 use Rattle.standing.specs.declared.Standing.{Standing}
 use Rattle.standing.specs.declared.Stood.{Stood}
-use borrow.Author.Rules.{rules}
 use Rattle.standing.proofs.rounds.start.Goals as goal
 
 pub returns : goal.returns

@@ -11,12 +11,10 @@ use Rattle.step.specs.Step.{Step}
 use Rattle.inboxes.specs.Inboxes.{inbox_most, inbox_to}
 use Rattle.inboxes.proofs.Messages.{front_read}
 use Rattle.standing.proofs.Stands.{stepped_stands}
-use borrow.Author.Rules.{rules}
 use Rattle.standing.proofs.rounds.step_node.Goals as goal
 use Rattle.standing.proofs.rounds.step_node.Goals.{After-put_inbox-size}
 
 -- the buffer's length, by the law: counting 63,392 zeros takes seconds
-
 room : inbox_most ≡ length {A = ℕ} (replicate inbox_most 0)
 room = sym (length-replicate {A = ℕ} inbox_most 0)
 
@@ -24,7 +22,6 @@ enough : inbox_most ≤ length {A = ℕ} (replicate inbox_most 0)
 enough = subst (λ (k : ℕ). inbox_most ≤ k) room (omega arith)
 
 -- what the buffer holds
-
 read : (c : goal.After-put_inbox-size) → let a = c.args in let after = c.put_inbox-size.new.inbox in
     a.n ≤ nodes_most → take c.put_inbox-size.result after ≡ inbox_to a.s.now a.n a.faulty a.r a.i a.outboxes
 read c l = (front_read _ _ _ _ (c.put_inbox-size.ensures.answers l enough) (c.put_inbox-size.ensures.leaves l enough)).1

@@ -1,12 +1,8 @@
 -- Before turn p the first p places hold what is kept of the first p that were found.
-use Prim.Native.Nat.{◌-◌, ◌≤◌}
-use mathlib.Core.Path.{◌≡◌, refl, ◌∙◌}
+use mathlib.Core.Path.{refl, ◌∙◌}
 use native.Mathlib.Omega.{arith}
-use lib.ListN.{length, take, length-set}
-use Rattle.rules.specs.Sizes.{nodes_most}
-use Rattle.step.specs.Step.{kept_in}
+use lib.ListN.{length-set}
 use Rattle.step.proofs.Steps.{one_kept, all_kept}
-use borrow.Author.Rules.{rules}
 use Rattle.step.proofs.stepping.kept_in.Goals as goal
 
 pub loop-p-init : goal.loop-p-init

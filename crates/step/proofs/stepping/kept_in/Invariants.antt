@@ -1,11 +1,8 @@
 use Prim.Native.Nat.{◌-◌, ◌≤◌}
-use mathlib.Core.Path.{◌≡◌, refl, ◌∙◌}
-use native.Mathlib.Omega.{arith}
-use lib.ListN.{length, take, length-set}
+use mathlib.Core.Path.{◌≡◌}
+use lib.ListN.{length, take}
 use Rattle.rules.specs.Sizes.{nodes_most}
 use Rattle.step.specs.Step.{kept_in}
-use Rattle.step.proofs.Steps.{one_kept, all_kept}
-use borrow.Author.Rules.{rules}
 use Rattle.step.proofs.stepping.kept_in.Given as goal
 
 abbrev pub invariant-loop-p : goal.invariant-loop-p

@@ -1,5 +1,4 @@
 -- In round f + 1 none; in every other those below n.
-use borrow.Author.Rules.{rules}
 use Rattle.step.proofs.Steps.{last_round, earlier_round}
 use Rattle.step.proofs.stepping.primaries_in.Goals as goal
 

@@ -1,12 +1,10 @@
 -- Each refusal is one test, in the order of the rows; what has passed them all is a step to be taken.
 use mathlib.Core.Path.{sym, subst, ◌∙◌}
 use native.Mathlib.Omega.{arith}
-use borrow.Author.Rules.{rules}
-use borrow.Author.Tests.{not-true, not-false}
 use Rattle.node.proofs.Sound.{sound_sizes}
 use Rattle.step.specs.Step.{Step}
 use Rattle.step.specs.declared.Stepped.{Stepped}
-use Rattle.step.proofs.Steps.{in_rounds_lem, before_rounds, after_rounds, unsound, out_of_rounds, step_length, ill_cut, cut_ill, cut_well}
+use Rattle.step.proofs.Steps.{in_rounds_lem, before_rounds, after_rounds, unsound, out_of_rounds, ill_cut, cut_ill, cut_well}
 use Rattle.step.proofs.stepping.step.Goals as goal
 
 pub returns-then-not-is_sound : goal.returns-then-not-is_sound

@@ -1,7 +1,6 @@
 -- The two bytes stand in the inbox, and then the message does, or bytes are missing.
 use native.Mathlib.Omega.{arith}
 use Rattle.wire.proofs.Cuts.{is_missing, is_message}
-use borrow.Author.Rules.{rules}
 use Rattle.wire.proofs.inbox.message_at.Goals as goal
 
 pub returns-then-inbox-lt-LENGTH_SIZE : goal.returns-then-inbox-lt-LENGTH_SIZE

@@ -1,17 +1,14 @@
 use Rattle.wire.proofs.Cuts.{Told, unreadable_from, sender_joins, still_fits}
 use Rattle.rules.proofs.Sizes.{sized_most}
 use native.Mathlib.Omega.{arith}
-use mathlib.Core.Path.{◌≡◌, refl, sym, ap, subst, ◌∙◌}
-use Prim.Native.Nat.{◌-◌, ◌≤◌}
-use borrow.Author.Tests.{not-true, not-false}
-use lib.ListN.{length}
+use mathlib.Core.Path.{◌≡◌, refl, sym, ap, ◌∙◌}
 use Rattle.laws.specs.Masks.{mask_of}
-use Rattle.wire.specs.Inbox.{place_of, MessageAt}
+use Rattle.wire.specs.Inbox.{place_of}
 use Rattle.wire.proofs.Cuts.{no_nodes_lem, no_me, ill_cut, heard, too_long, too_short, missing_told, message_told, next_place}
-use borrow.Author.Rules.{rules}
 use Rattle.wire.proofs.inbox.read_inbox.Goals as goal
 use Rattle.wire.proofs.inbox.read_inbox.Goals.{In-Message}
 
+-- what the answer tells of the message at the place reached
 told : (c : goal.In-Message)
     → let a = c.args in
     let l = c.loop-sender in
@@ -19,7 +16,7 @@ told : (c : goal.In-Message)
 told c =
     let a = c.args in
     let l = c.loop-sender in
-    message_told a.inbox.now l.at _ _ (c.in-Message.ensures)
+    message_told a.inbox.now l.at _ _ c.in-Message.ensures
 
 pub returns-then-not-is_sized : goal.returns-then-not-is_sized
 returns-then-not-is_sized c =

@@ -1,14 +1,9 @@
-use Rattle.wire.proofs.Cuts.{Told, unreadable_from, sender_joins, still_fits}
-use Rattle.rules.proofs.Sizes.{sized_most}
-use native.Mathlib.Omega.{arith}
-use mathlib.Core.Path.{◌≡◌, refl, sym, ap, subst, ◌∙◌}
+use Rattle.wire.proofs.Cuts.{unreadable_from}
+use mathlib.Core.Path.{◌≡◌}
 use Prim.Native.Nat.{◌-◌, ◌≤◌}
-use borrow.Author.Tests.{not-true, not-false}
 use lib.ListN.{length}
 use Rattle.laws.specs.Masks.{mask_of}
-use Rattle.wire.specs.Inbox.{place_of, MessageAt}
-use Rattle.wire.proofs.Cuts.{no_nodes_lem, no_me, ill_cut, heard, too_long, too_short, missing_told, message_told, next_place}
-use borrow.Author.Rules.{rules}
+use Rattle.wire.specs.Inbox.{place_of}
 use Rattle.wire.proofs.inbox.read_inbox.Given as goal
 
 abbrev pub invariant-loop-sender : goal.invariant-loop-sender

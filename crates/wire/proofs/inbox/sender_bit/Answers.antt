@@ -1,15 +1,13 @@
 use mathlib.Core.Bool.{true, false}
 use Rattle.wire.specs.Inbox.{is_unreadable}
-use mathlib.Core.Path.{◌≡◌, subst}
+use mathlib.Core.Path.{◌≡◌}
 use mathlib.Core.Bool.{and-false}
 use Rattle.rules.proofs.Sizes.{sized_most}
 use Rattle.wire.proofs.Cuts.{bit_none, bit_set}
-use mathlib.Core.Path.{◌≡◌, subst}
+use mathlib.Core.Path.{◌≡◌}
 use native.Mathlib.Omega.{arith}
 use borrow.Author.Tests.{eq-eqb, ne_eqb}
-use Rattle.wire.specs.Message.{ReadMessage}
 use Rattle.wire.proofs.Messages.{silent_told, votes_told, refused_never}
-use borrow.Author.Rules.{rules}
 use Rattle.wire.proofs.inbox.sender_bit.Goals as goal
 
 pub returns-then-sender-me : goal.returns-then-sender-me

@@ -7,7 +7,6 @@ use lib.Dec.{ltb}
 use lib.Pow.{pow_mono}
 use Rattle.laws.proofs.Bits.{one_shifted}
 use Rattle.laws.proofs.Tests.{below_not}
-use borrow.Author.Rules.{rules}
 use Rattle.wire.proofs.mask.fits.Goals as goal
 
 pub returns-then-n-ge-NODES_MOST : goal.returns-then-n-ge-NODES_MOST

@@ -2,7 +2,6 @@
 use native.Mathlib.Omega.{arith}
 use Prim.Native.Nat.{◌+◌, ◌<◌}
 use lib.ListN.{get_or}
-use borrow.Author.Rules.{rules}
 use Rattle.wire.proofs.pair.pair_at.Goals as goal
 use Rattle.wire.proofs.pair.pair_at.Goals.{Start}
 
