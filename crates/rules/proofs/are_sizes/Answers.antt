@@ -9,7 +9,7 @@ use Rattle.rules.proofs.are_sizes.Goals as goal
 pub returns-then-not-is_sized : goal.returns-then-not-is_sized
 returns-then-not-is_sized c =
     let a = c.args in
-    sym (not_nodes a.n a.f a.me (sym c.is_sized.ensures ∙ not-true _ c.if-not-is_sized.true-raw))
+    sym (not_nodes a.n a.f a.me (sym c.is_sized.ensures ∙ c.if-not-is_sized.true))
 
 pub returns-then-n-f : goal.returns-then-n-f
 returns-then-n-f c =

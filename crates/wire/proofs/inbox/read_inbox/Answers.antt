@@ -45,13 +45,19 @@ returns-in_default c =
     (too_short a.n a.inbox.now l.sender (omega arith) (rw l.invariant.2 at (missing_told a.inbox.now l.at r)))
 
 pub slice_bounds-sender_bit-count : goal.slice_bounds-sender_bit-count
-slice_bounds-sender_bit-count c = omega (arith, (told (goal.at.slice_bounds-sender_bit-count c).In-Message).start_is, (told (goal.at.slice_bounds-sender_bit-count c).In-Message).end_is)
+slice_bounds-sender_bit-count c =
+    let its = (goal.at.slice_bounds-sender_bit-count c).In-Message in
+    omega (arith, (told its).start_is, (told its).end_is)
 
 pub slice_bounds-sender_bit-start : goal.slice_bounds-sender_bit-start
-slice_bounds-sender_bit-start c = omega (arith, (told (goal.at.slice_bounds-sender_bit-start c).In-Message).start_is, (told (goal.at.slice_bounds-sender_bit-start c).In-Message).end_is)
+slice_bounds-sender_bit-start c =
+    let its = (goal.at.slice_bounds-sender_bit-start c).In-Message in
+    omega (arith, (told its).start_is, (told its).end_is)
 
 pub slice_bounds-sender_bit-end : goal.slice_bounds-sender_bit-end
-slice_bounds-sender_bit-end c = omega (arith, (told (goal.at.slice_bounds-sender_bit-end c).In-Message).end_is, (told (goal.at.slice_bounds-sender_bit-end c).In-Message).fits)
+slice_bounds-sender_bit-end c =
+    let its = (goal.at.slice_bounds-sender_bit-end c).In-Message in
+    omega (arith, (told its).end_is, (told its).fits)
 
 pub sender_bit-unreadable-requires : goal.sender_bit-unreadable-requires
 sender_bit-unreadable-requires c =

@@ -14,7 +14,11 @@ below c =
     (omega (arith, c.type_inv.bytes at), omega (arith, c.type_inv.bytes (at + 1)))
 
 pub overflow_mul-result : goal.overflow_mul-result
-overflow_mul-result c = omega (arith, (below (goal.at.overflow_mul-result c).Start).0, (below (goal.at.overflow_mul-result c).Start).1)
+overflow_mul-result c =
+    let begun = (goal.at.overflow_mul-result c).Start in
+    omega (arith, (below begun).0, (below begun).1)
 
 pub overflow_add-result : goal.overflow_add-result
-overflow_add-result c = omega (arith, (below (goal.at.overflow_add-result c).Start).0, (below (goal.at.overflow_add-result c).Start).1)
+overflow_add-result c =
+    let begun = (goal.at.overflow_add-result c).Start in
+    omega (arith, (below begun).0, (below begun).1)
