@@ -8,7 +8,6 @@ use native.Mathlib.Omega.{arith}
 use borrow.Author.Tests.{eq-eqb, ne_eqb}
 use lib.Dec.{eqb}
 use lib.ListN.{length}
-use Rattle.laws.specs.Masks.{count}
 use Rattle.text.specs.Hex.{hex_of, is_hex, pairs_of}
 use Rattle.text.specs.Numbers.{digits_below}
 use Rattle.schedule.specs.Sends.{Send, send_of, sending_as}

@@ -1,4 +1,6 @@
 // What a schedule holds: its faulty nodes, its trays and its sends, each read from the schedule's bytes when it is asked for.
+#![tactic(auto)]
+
 ghost use Rattle.std.specs.Prelude.{◌≡◌, length};
 ghost use Rattle.laws.specs.Masks.{mask_of};
 ghost use Rattle.rules.specs.Sizes.{nodes_most};

@@ -43,7 +43,7 @@ bytes_in part answer = take answer.size (drop answer.start part)
 
 -- the part of the caller's memory that the answer tells
 abbrev pub handed_in : Bor (List ℕ) → BatchPart → Bor (List ℕ)
-handed_in part answer = record { ref_ptr = onward answer.start part.ref_ptr; ghost_name = part.ghost_name; now = bytes_in part.now answer }
+handed_in part answer = record { ref_ptr = onward answer.start part.ref_ptr; now = bytes_in part.now answer }
 
 -- it lies within the part that was handed in
 pub record TellsPart (n : ℕ) (part : Bor (List ℕ)) (answer : BatchPart) : Type 0 where

@@ -1,4 +1,6 @@
 // The inbox of a node in a round: what each node sends it, after its length.
+#![tactic(auto)]
+
 ghost use Rattle.std.specs.Prelude.{◌≡◌, [], ◌∷◌, ◌+◌, ◌<◌, ◌≤◌, length, take};
 ghost use Rattle.laws.specs.Parts.{onto};
 ghost use Rattle.rules.specs.Sizes.{nodes_most};
@@ -16,7 +18,7 @@ const SLOT_MOST: usize = LENGTH_SIZE + MESSAGE_MOST;
 pub const INBOX_MOST: usize = NODES_MOST * SLOT_MOST;
 
 // What a node sends: its first `size` bytes.
-#[derive(Drop)]
+#[derive(Clone, Copy)]
 pub struct Outbox {
     pub size: usize,
     pub bytes: [u8; MESSAGE_MOST],

@@ -8,7 +8,7 @@ use native.Mathlib.Nat.{not-suc-le-zero, le_of_suc-le-suc, eq-or-lt_of_le, le_tr
 use native.Mathlib.Numerals.{add-one}
 use native.Mathlib.Omega.{arith}
 use lib.ListN.{length, get_or, set, take, drop}
-use lib.Seq.{take_at, get_or-set_same, get_or_set_other}
+use lib.Seq.{take_at, get_or-set_same, get_or-set_other}
 use Rattle.laws.specs.Parts.{onto}
 use Rattle.rules.specs.Sizes.{nodes_most}
 use Rattle.rules.specs.Signers.{Mark}
@@ -34,7 +34,7 @@ module _ (n f : ℕ) (mark : ℕ → Mark) (slots : List ℕ) where
   one_more_counted i masks m l h e j k =
       ⊎_elim
       (λ q. rw q (get_or-set_same masks i m 0 l ∙ e))
-      (λ q. let ne : j ≢ i = λ z. omega arith in get_or_set_other masks i j m 0 ne ∙ h j q)
+      (λ q. let ne : j ≢ i = λ z. omega arith in get_or-set_other masks i j m 0 ne ∙ h j q)
       (eq-or-lt_of_le (le_of_suc-le-suc (rw (sym (add-one i)) k)))
 
 -- the slots that were written are the first bytes of the places

@@ -10,7 +10,7 @@ use native.Mathlib.Omega.{arith}
 use borrow.Author.Tests.{le-leb, leb-true}
 use lib.Dec.{eqb, leb}
 use lib.ListN.{length, drop, set, replicate}
-use lib.Seq.{take_at, get_or-set_same, get_or_set_other}
+use lib.Seq.{take_at, get_or-set_same, get_or-set_other}
 use Rattle.laws.specs.Members.{In}
 use Rattle.laws.specs.Parts.{onto}
 use Rattle.laws.proofs.Lent.{onto_length}
@@ -78,7 +78,7 @@ module _ (log : ℕ → List ℕ) where
   one_held i logs held l h e j m =
       ⊎_elim
       (λ q. rw q (get_or-set_same logs i held _ l ∙ e))
-      (λ q. let ne : j ≢ i = λ z. omega arith in get_or_set_other logs i j held _ ne ∙ h j q)
+      (λ q. let ne : j ≢ i = λ z. omega arith in get_or-set_other logs i j held _ ne ∙ h j q)
       (eq-or-lt_of_le (le_of_suc-le-suc (rw (sym (add-one i)) m)))
 
   pub held_fit : ((j : ℕ) → length (log j) ≤ decided_most) → (logs : List HeldLog) → AllHeld log nodes_most logs → AllFit logs

@@ -9,7 +9,7 @@ use native.Mathlib.Numerals.{add-one}
 use native.Mathlib.Omega.{arith}
 use borrow.Author.Tests.{not-true}
 use lib.ListN.{length, get_or, set, length-append, length-set}
-use lib.Seq.{get_or-set_same, get_or_set_other}
+use lib.Seq.{get_or-set_same, get_or-set_other}
 use Rattle.laws.specs.Members.{same, among}
 use Rattle.laws.proofs.Members.{same_eq, same_self}
 use Rattle.laws.proofs.Tests.{both, clash, neither}
@@ -146,7 +146,7 @@ module _ (t : ℕ → Bool) (log : ℕ → List ℕ) where
             count = h.count ∙ ap length d;
             each = λ j m g. ⊎_elim
                 (λ q. rw q (get_or-set_same x.of i _ 0 within ∙ h.each k l (a.correct l) ∙ ap (λ (y : List ℕ). place_in y (distinct t log i)) (sym e) ∙ ap (place_in (log i)) d))
-                (λ q. let ne : j ≢ i = λ z. omega arith in get_or_set_other x.of i j _ 0 ne ∙ h.each j q g ∙ ap (place_in (log j)) d)
+                (λ q. let ne : j ≢ i = λ z. omega arith in get_or-set_other x.of i j _ 0 ne ∙ h.each j q g ∙ ap (place_in (log j)) d)
                 (eq-or-lt_of_le (le_of_suc-le-suc (rw (sym (add-one i)) m)));
           }
 
@@ -162,7 +162,7 @@ module _ (t : ℕ → Bool) (log : ℕ → List ℕ) where
             each = λ j m g. ⊎_elim
                 (λ q. rw q (get_or-set_same x.of i c 0 within ∙ ce ∙ h.count ∙ sym (ap (place_in (log i)) d ∙ place_next (log i) (distinct t log i) none)))
                 (λ q. let ne : j ≢ i = λ y. omega arith in
-                get_or_set_other x.of i j c 0 ne ∙ h.each j q g ∙ sym (ap (place_in (log j)) d ∙ place_kept (log j) (distinct t log i) (log i ∷ []) (its_among i j q g)))
+                get_or-set_other x.of i j c 0 ne ∙ h.each j q g ∙ sym (ap (place_in (log j)) d ∙ place_kept (log j) (distinct t log i) (log i ∷ []) (its_among i j q g)))
                 (eq-or-lt_of_le (le_of_suc-le-suc (rw (sym (add-one i)) m)));
           }
 

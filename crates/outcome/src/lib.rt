@@ -1,4 +1,6 @@
 // What a run that is over comes to: the log that each node makes, its mark, and who signed it.
+#![tactic(auto)]
+
 ghost use Rattle.std.specs.Prelude.{◌≡◌};
 ghost use Rattle.outcome.specs.Signing.{has_bit};
 ghost use Rattle.outcome.specs.Outcome.{ComesTo};
@@ -15,14 +17,14 @@ use rules::{BATCH_MOST, NODES_MOST};
 pub const MADE_MOST: usize = NODES_MOST * BATCH_MOST;
 
 // A log: `count` entries; the places not used are zero.
-#[derive(Drop)]
+#[derive(Clone, Copy)]
 pub struct HeldLog {
     pub count: usize,
     pub entries: [u64; MADE_MOST],
 }
 
 // By node number: the log that it makes, and the mask of those who signed it.
-#[derive(Drop)]
+#[derive(Clone, Copy)]
 pub struct Outcome {
     pub logs: [HeldLog; NODES_MOST],
     pub signers: [u16; NODES_MOST],

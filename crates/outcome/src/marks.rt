@@ -10,7 +10,7 @@ use crate::{HeldLog, MADE_MOST, has_bit};
 use rules::NODES_MOST;
 
 // How many distinct logs there are, and for each correct node the number of its log.
-#[derive(Drop)]
+#[derive(Clone, Copy)]
 pub(crate) struct Numbers {
     pub count: usize,
     pub of: [u8; NODES_MOST],

@@ -11,7 +11,7 @@ use rules::NODES_MOST;
 use signing::{MARK_SIZE, SLOT_SIZE};
 
 // A mark's bytes.
-#[derive(Drop)]
+#[derive(Clone, Copy)]
 struct Mark {
     bytes: [u8; MARK_SIZE],
 }

@@ -12,7 +12,7 @@ use rules::NODES_MOST;
 use signing::SLOT_SIZE;
 
 // A slot's bytes.
-#[derive(Drop)]
+#[derive(Clone, Copy)]
 struct Slot {
     bytes: [u8; SLOT_SIZE],
 }

@@ -1,7 +1,7 @@
 -- A report has no more bytes than its bound: a log that is made on an empty one has 256 entries at most, an entry 22 bytes and a comma.
 use Prim.Native.Nat.{ℕ, zero, suc, ◌*◌, ◌≤◌, ◌<◌}
 use mathlib.Core.Path.{◌≡◌, refl, ap}
-use mathlib.Core.Logic.{⊎_elim, inl}
+use mathlib.Core.Logic.{⊎_elim, inl, inr}
 use mathlib.Core.Bool.{Bool, true, false, cond}
 use mathlib.Core.List.{List, [], ◌∷◌, ◌++◌}
 use native.Mathlib.Numerals.{add-one}
@@ -41,10 +41,13 @@ that_most t (suc n) = omega (arith, length-append (nodes_that t n) (cond (t n) (
 
 that_below : (t : ℕ → Bool) (n x : ℕ) → In x (nodes_that t n) → x < n
 unfolding nodes_that gather
+that_below t zero x i = elim i [ ]
 that_below t (suc n) x i = ⊎_elim (λ h. omega (arith, that_below t n x h)) (λ h. one (t n) h) (in_either x (nodes_that t n) (cond (t n) (n ∷ []) []) i)
   where
     one : (b : Bool) → In x (cond b (n ∷ []) []) → x < suc n
     one true (inl e) = omega arith
+    one true (inr h) = elim h [ ]
+    one false h = elim h [ ]
 
 that_small : (t : ℕ → Bool) (n : ℕ) → n ≤ nodes_most → (k : ℕ) → get_or (nodes_that t n) k 0 < 100
 that_small t n l k =

@@ -1,4 +1,6 @@
 // What a rehearsal prints of a run that is over: n, f, then for each correct node, ascending, its number, log and signers.
+#![tactic(auto)]
+
 ghost use Rattle.report.specs.Report.{Reports};
 
 mod lines;

@@ -1,6 +1,6 @@
 -- "A readable send that shows a correct node's bit for a primary and batch which that node has not itself sent in that round or before, with whatever mask,
 -- breaks the rules." By the states in which the nodes take the round: what a node has sent by then is its own batch and all that it has kept.
-use Rattle.std.specs.Prelude.{ℕ, Bool, not, ◌&&◌, ◌||◌, List, [], eqb, leb, ltb, length}
+use Rattle.std.specs.Prelude.{ℕ, Bool, not, ◌&&◌, ◌||◌, List, eqb, leb, ltb, length}
 use Rattle.laws.specs.Masks.{bit, every}
 use Rattle.laws.specs.Members.{those}
 use Rattle.rules.specs.Sizes.{sized}
