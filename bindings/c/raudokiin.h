@@ -1,4 +1,4 @@
-/* The calls of a Logres log node, for hosts on x86-64 Linux: link libhost.a, which `rt staticlib host` writes.
+/* The calls of a Logres log node, for hosts on x86-64 Linux: link libhost.a, which `rt lib` in crates/host writes.
  *
  * Each call is one call of the proved crates and keeps that call's promise for every value that its types allow: it ends, it reads and writes
  * nothing but what it is handed, and its answer, the state and each byte of lent memory are those that the document "The log nodes" states. The words

@@ -154,7 +154,7 @@ impl Copies {
             .arg(self.copy.join(folder).join("Cargo.toml"))
             .arg("--target-dir")
             .arg(self.copy.join("built"));
-        cargo.env("RAUDOKIIN_LIB", self.root.join("target/staticlib"));
+        cargo.env("RAUDOKIIN_LIB", self.root.join("crates/host/out"));
         cargo.env("CARGO_PROFILE_DEV_OPT_LEVEL", "0").env("CARGO_PROFILE_DEV_DEBUG", "0");
         Ok(cargo.stdout(Stdio::null()).stderr(Stdio::null()).status()?.success())
     }

@@ -1,4 +1,4 @@
-//! The calls of a Logres log node for Rust hosts, over the proved library libhost.a (`rt staticlib host`).
+//! The calls of a Logres log node for Rust hosts, over the proved library libhost.a (`rt lib` in crates/host).
 //!
 //! What each call does, and what a host owes beside memory (the key card's checks, the order to sign, well-cut inboxes), stands in
 //! `bindings/c/raudokiin.h`. Here borrows see to it that a lent output overlaps no input. [`calls`] has each call with its whole answer in numbers; the
