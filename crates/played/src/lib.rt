@@ -8,7 +8,7 @@ pub use playing::play;
 use rules::NODES_MOST;
 
 // The line of the first send that breaks the rule, or 0 and the nodes after the last round.
-#[derive(Drop)]
+#[derive(Clone, Copy)]
 pub struct Played {
     pub bad: usize,
     pub nodes: [Node; NODES_MOST],

@@ -74,8 +74,8 @@ module _ (n me r : ℕ) (s : List ℕ) (unreadable : ℕ) (found : List Found) w
       is_passed next t told not_so same = record {
         taken = λ nodes e.
             let votes = taken_up j me (heard_from n s) in
-            let None-more = passed_over n me s j unreadable low e (sym told ∙ not_so) in
-            let all : taken_up (j + 1) me (heard_from n s) ≡ votes = one_sender me (heard_from n s) j ∙ ap (λ (l : List Vote). votes ++ l) None-more ∙ append-nil votes in
+            let none_more = passed_over n me s j unreadable low e (sym told ∙ not_so) in
+            let all : taken_up (j + 1) me (heard_from n s) ≡ votes = one_sender me (heard_from n s) j ∙ ap (λ (l : List Vote). votes ++ l) none_more ∙ append-nil votes in
             rw (all, same) (here.taken nodes e);
       }
 
