@@ -15,6 +15,23 @@ function load(f,    line, n) {
 
 function indent_of(s) { return match(s, /[^ ]/) - 1 }
 
+# The words of a type, joined, each with a capital: `Result<usize, Refusal>` is ResultUsizeRefusal, `&u8` is RefU8.
+function words(s,    n, i, w, part) {
+    gsub(/[a-z_0-9]+::/, "", s); gsub(/&/, " ref ", s); gsub(/'[a-z_]+/, "", s)
+    n = split(s, part, /[^A-Za-z0-9]+/)
+    for (i = 1; i <= n; i++) w = w toupper(substr(part[i], 1, 1)) substr(part[i], 2)
+    return w
+}
+
+# What the check calls an `impl`: a type's own by the type's name; a trait's by the words of the type, the trait's name and the words of its arguments.
+function impl_of(s,    of_trait, at) {
+    sub(/^impl(<[^>]*>)? /, "", s); sub(/ \{.*/, "", s)
+    at = index(s, " for ")
+    if (!at) { sub(/<.*/, "", s); return s }
+    of_trait = substr(s, 1, at - 1)
+    return words(substr(s, at + 5)) words(of_trait)
+}
+
 # As `rt fmt` lays a file out: a function starts at `fn`, its body at a line that ends in `{`, and it ends at a `}`, all with one indent.
 function outline(f, n,    i, s, module, impl, name, indent, begun, in_body) {
     module = f; sub(/^src\//, "", module); sub(/\.rt$/, "", module); gsub(/\//, "::", module)
@@ -22,7 +39,7 @@ function outline(f, n,    i, s, module, impl, name, indent, begun, in_body) {
     for (i = 1; i <= n; i++) {
         s = text[f, i]
         if (name == "") {
-            if (s ~ /^impl /) { impl = s; sub(/^impl /, "", impl); sub(/ .*/, "::", impl) }
+            if (s ~ /^impl[ <]/) impl = impl_of(s) "::"
             if (s ~ /^}/) impl = ""
             if (s !~ /^ *(pub(\([a-z]+\))? )?(extern "C" )?fn [a-z0-9_]+/) continue
             name = s; sub(/^.*fn /, "", name); sub(/[^a-z0-9_].*/, "", name)

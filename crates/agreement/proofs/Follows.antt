@@ -29,7 +29,6 @@ use Rattle.node.proofs.Sound.{of_kept}
 use Rattle.round.specs.Found.{heard_from}
 use Rattle.step.specs.Step.{kept_by, passed_by, stepped_node, in_rounds, step_number}
 use Rattle.step.specs.Course.{made, after}
-use Rattle.step.proofs.Steps.{in_rounds_lem}
 use Rattle.step.proofs.Courses.{made_is_fresh, made_sound, course_sound}
 use Rattle.agreement.specs.Hall.{Hall, node_after}
 use Rattle.agreement.specs.Granted.{Room, Round}
@@ -105,7 +104,7 @@ module _ (hall : Hall) (i : ℕ) (U : Unhindered hall i) where
       → step_number (node_after hall i r) (hall.inbox i (suc r)) (hall.room i (suc (suc r))) ≡ done
   goes r b e =
       step_goes (node_after hall i r) (hall.inbox i (suc r)) (hall.room i (suc (suc r))) (stays_sound r)
-      (ap in_rounds e ∙ in_rounds_lem (ruled hall i r) b.first b.last)
+      (ap in_rounds e ∙ simp (le-leb _ _ b.first, le-leb _ _ b.last))
       (ap (λ (s : Node). well_cut s.n (hall.inbox i (suc r))) e ∙ U.cut (suc r) b) (U.room.steps r b)
 
   pub follows : (r : ℕ) → r ≤ hall.f + 1 → node_after hall i r ≡ ruled hall i r

@@ -5,6 +5,7 @@ use mathlib.Core.Logic.{⊎_elim}
 use mathlib.Core.Bool.{true, cond}
 use mathlib.Core.List.{List, [], ◌∷◌, map, append-nil}
 use mathlib.Core.Option.{some}
+use Rattle.std.proofs.Math.Option.{some-injective}
 use native.Mathlib.Nat.{le_trans, le-suc}
 use native.Mathlib.Omega.{arith}
 use lib.Dec.{eqb}
@@ -50,10 +51,6 @@ passes_same n f me r kept other votes h =
 sends_nothing : (hall : Hall) (c : ℕ) → votes_of hall.n (sends hall c 0) ≡ some []
 unfolding outbox votes_of votes_after
 sends_nothing hall c = refl
-
--- one list of votes
-some_same : {A : Type 0} {x y : A} → some x ≡ some y → x ≡ y
-some_same e = cc
 
 module _ (hall : Hall) (i : ℕ) (U : Unhindered hall i) where
   abbrev n : ℕ
@@ -123,8 +120,8 @@ module _ (hall : Hall) (i : ℕ) (U : Unhindered hall i) where
     where
       its : (q : ℕ) → s.round ≡ q → In s.vote (sent (over_votes hall) s.round i)
       its zero e =
-          let none_sent : s.votes ≡ [] = some_same (sym s.read ∙ ap (λ (k : ℕ). votes_of n (sends hall i k)) e ∙ sends_nothing hall i) in
+          let none_sent : s.votes ≡ [] = some-injective _ _ (sym s.read ∙ ap (λ (k : ℕ). votes_of n (sends hall i k)) e ∙ sends_nothing hall i) in
           absurd (subst (In s.vote) none_sent s.its)
       its (suc q) e =
           let round : Round hall s.round = record { first = omega arith; last = omega (arith, s.by) } in
-          subst (In s.vote) (some_same (sym s.read ∙ sends_read s.round round)) s.its
+          subst (In s.vote) (some-injective _ _ (sym s.read ∙ sends_read s.round round)) s.its

@@ -6,7 +6,7 @@ use mathlib.Core.List.{List, [], ◌∷◌}
 use mathlib.Core.Option.{Option, some}
 use native.Mathlib.Nat.{le_refl, le_trans, le-suc}
 use native.Mathlib.Omega.{arith}
-use borrow.Author.Tests.{ltb-false, eqb-true}
+use borrow.Author.Tests.{ltb-false, eqb-true, not-false}
 use lib.Dec.{eqb, ltb}
 use lib.ListN.{length}
 use Rattle.laws.specs.Masks.{every}
@@ -73,11 +73,7 @@ module _ (hall : Hall) where
       shown_right = none_pass (forged hall r) v (votes_in (votes_of hall.n message)) h (subst (λ (o : Option (List Vote)). In v (votes_in o)) (sym e) m)
 
       for_c : not (forged_for hall r v c) ≡ true
-      for_c = every_each (λ (x : ℕ). not (forged_for hall r v x)) hall.n (all (every _ hall.n) shown_right) c cc.node
-        where
-          all : (b : Bool) → not b ≡ false → b ≡ true
-          all true q = refl
-          all false q = absurd (clash refl q)
+      for_c = every_each (λ (x : ℕ). not (forged_for hall r v x)) hall.n (not-false (every _ hall.n) shown_right) c cc.node
 
       go : (b : Bool) → has_sent hall r c v.primary v.batch ≡ b → has_sent hall r c v.primary v.batch ≡ true
       go true q = q

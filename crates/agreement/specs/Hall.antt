@@ -29,7 +29,7 @@ module _ (hall : Hall) where
   abbrev pub sends : (i r : ℕ) → List ℕ
   sends i r = outbox hall.n hall.f i (hall.tray i) (hall.inbox i) (hall.room i) r
 
-  -- what node i's close answers after round f + 1: its number, and the log where it makes one
+  -- the number of the row that refuses node i's close after round f + 1, 0 where none does; and the log that it makes
   abbrev pub closes : (i : ℕ) → ℕ
   closes i = close_number (node_after i (hall.f + 1)) hall.old (hall.output i)
 

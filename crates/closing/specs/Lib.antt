@@ -1,3 +1,2 @@
 pub mod Close
-pub mod Merge
 pub mod Gather

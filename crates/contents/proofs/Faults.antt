@@ -15,31 +15,39 @@ use Rattle.laws.proofs.Tests.{clash}
 use Rattle.rules.specs.Sizes.{nodes_most}
 use Rattle.text.specs.Lines.{lines_of}
 use Rattle.header.specs.Header.{headed_of}
-use Rattle.schedule.specs.Sends.{faulty_bit}
-use Rattle.header.specs.declared.Headed.{Headed}
-use Rattle.header.specs.declared.Headed.TheVariants.{BadAt, Read}
+use Rattle.header.specs.Header.{faulty_bit}
+use Rattle.header.specs.declared.BadLine.{BadLine}
+use Rattle.std.specs.Prelude.{Result, Ok, Err}
 use Rattle.header.specs.declared.Header.{Header}
 use Rattle.header.proofs.Heads.{Whole, header_told}
-use Rattle.contents.specs.Contents.{faulty_in, faulty_line, faulty_of, is_faulty, is_faulty_key, items_in}
+use Rattle.contents.specs.Contents.{header_as, header_of, faulty_in, faulty_line, faulty_of, is_faulty, is_faulty_key, items_in}
 
 -- ---- the list of a header that was read
 
-pub faulty_is : (s : List ℕ) (h : Header) (e : headed_of (lines_of s) ≡ Read h) (w : Whole (lines_of s) h) → faulty_of s ≡ w.faulty
+pub faulty_is : (s : List ℕ) (h : Header) (e : headed_of (lines_of s) ≡ Ok h) (w : Whole (lines_of s) h) → faulty_of s ≡ w.faulty
 unfolding faulty_in faulty_line is_faulty_key items_in
-faulty_is s h e w = ap (λ (x : Headed). faulty_in x (lines_of s)) e ∙ ap items_in w.listed
+faulty_is s h e w = ap (λ (x : Result Header BadLine). faulty_in x (lines_of s)) e ∙ ap items_in w.listed
 
-pub mask_is : (s : List ℕ) (h : Header) → headed_of (lines_of s) ≡ Read h → h.faulty ≡ mask_of (is_faulty s) nodes_most
+pub mask_is : (s : List ℕ) (h : Header) → headed_of (lines_of s) ≡ Ok h → h.faulty ≡ mask_of (is_faulty s) nodes_most
 mask_is s h e =
     let w = header_told (lines_of s) h e in
     w.mask ∙ ap (λ (xs : List ℕ). mask_of (λ (j : ℕ). holds j xs) nodes_most) (sym (faulty_is s h e w))
 
-pub no_mask : (s : List ℕ) (k : ℕ) → headed_of (lines_of s) ≡ BadAt k → 0 ≡ mask_of (is_faulty s) nodes_most
+pub no_mask : (s : List ℕ) (b : BadLine) → headed_of (lines_of s) ≡ Err b → 0 ≡ mask_of (is_faulty s) nodes_most
 unfolding faulty_in mask_of
-no_mask s k e = ap (λ (x : Headed). mask_of (λ (j : ℕ). holds j (faulty_in x (lines_of s))) nodes_most) (sym e)
+no_mask s b e = ap (λ (x : Result Header BadLine). mask_of (λ (j : ℕ). holds j (faulty_in x (lines_of s))) nodes_most) (sym e)
+
+pub mask_held : (s : List ℕ) → (header_of s).faulty ≡ mask_of (is_faulty s) nodes_most
+unfolding header_as
+mask_held s = go (headed_of (lines_of s)) refl
+  where
+    go : (r : Result Header BadLine) → headed_of (lines_of s) ≡ r → (header_as r).faulty ≡ mask_of (is_faulty s) nodes_most
+    go (Ok h) e = mask_is s h e
+    go (Err b) e = no_mask s b e
 
 -- ---- the bits of the mask are the members of the list
 
-module _ (s : List ℕ) (h : Header) (e : headed_of (lines_of s) ≡ Read h) (j : ℕ) where
+module _ (s : List ℕ) (h : Header) (e : headed_of (lines_of s) ≡ Ok h) (j : ℕ) where
   bit_is : bit h.faulty j ≡ as_bit (ltb j nodes_most && is_faulty s j)
   bit_is = ap (λ (m : ℕ). bit m j) (mask_is s h e) ∙ mask_bit (is_faulty s) nodes_most j
 

@@ -14,9 +14,10 @@ use Rattle.laws.proofs.Order.{rest_ascends}
 use Rattle.laws.proofs.Tests.{both, clash}
 use Rattle.entries.specs.Bytes.{AreBytes}
 use Rattle.wire.specs.Sizes.{message_most}
+use Rattle.std.specs.Prelude.{Ok}
+use Rattle.header.specs.declared.Header.{Header}
 use Rattle.schedule.specs.Forms.{form_of}
 use Rattle.schedule.specs.Sends.{Send, rank_of}
-use Rattle.schedule.specs.declared.Form.TheVariants.{Good}
 use Rattle.contents.specs.Contents.{message_for, message_in, numbered, sends_of}
 use Rattle.contents.proofs.Bytes.{sends_bytes}
 use Rattle.contents.proofs.Good.{good_send, sends_ascend}
@@ -59,9 +60,9 @@ found_in (y ∷ ys) x o i = go (numbered x.round x.from x.to y.round y.from y.to
     go false e (inr j) rest = rest j
 
 -- the message of a send is what is found for its numbers
-pub message_found : (s : List ℕ) (n f : ℕ) → form_of s ≡ Good n f → (x : Send) → In x (sends_of s)
+pub message_found : (s : List ℕ) (h : Header) → form_of s ≡ Ok h → (x : Send) → In x (sends_of s)
     → message_for s x.round x.from x.to ≡ x.message
-message_found s n f good x i = found_in (sends_of s) x (sends_ascend s n f good) i
+message_found s h good x i = found_in (sends_of s) x (sends_ascend s h good) i
 
 -- what is found for some numbers is the message of a send that has them
 pub record From (s : List ℕ) (r i j : ℕ) : Type 0 where
@@ -99,8 +100,8 @@ message_bytes_lem s r i j =
     (message_from s r i j)
 
 -- and no longer than a message may be
-pub message_size : (s : List ℕ) (n f r i j : ℕ) → form_of s ≡ Good n f → length (message_for s r i j) ≤ message_most
-message_size s n f r i j good =
+pub message_size : (s : List ℕ) (h : Header) (r i j : ℕ) → form_of s ≡ Ok h → length (message_for s r i j) ≤ message_most
+message_size s h r i j good =
     ⊎_elim (λ q. omega (arith, ap length q))
-    (λ q. omega (arith, ap length q.message_is, (good_send s n f good q.send q.sent).size_most))
+    (λ q. omega (arith, ap length q.message_is, (good_send s h good q.send q.sent).size_most))
     (message_from s r i j)

@@ -3,7 +3,7 @@ use Prim.Native.Nat.{◌*◌, ◌+◌, ◌<◌, ◌^◌, ◌≤◌, ℕ}
 use mathlib.Core.Bool.{Bool, false, true}
 use mathlib.Core.List.{List, [], ◌∷◌, map}
 use mathlib.Core.Logic.{◌⊎◌, inl, inr, ⊎_elim}
-use mathlib.Core.Option.{Option, none, some}
+use Rattle.std.specs.Prelude.{Option, Some, None, Ok}
 use mathlib.Core.Path.{◌∙◌, ◌≡◌, ap, refl, subst, sym}
 use native.Mathlib.Omega.{arith}
 use borrow.Author.Tests.{eqb-true}
@@ -21,13 +21,12 @@ use Rattle.entries.specs.Bytes.{AreBytes, AreEntries}
 use Rattle.wire.specs.Sizes.{message_most}
 use Rattle.text.specs.Lines.{lines_of, list_line}
 use Rattle.text.specs.declared.Kind.TheVariants.{Below, Entry}
-use Rattle.text.proofs.Items.{below_small, entry_item, line_batch, line_read}
+use Rattle.text.proofs.Listed.{below_small, entry_item, line_batch, line_read}
 use Rattle.schedule.specs.Forms.{form_of}
 use Rattle.header.specs.Header.{header_size}
 use Rattle.header.specs.Keys.{faulty_key}
 use Rattle.schedule.specs.Keys.{tray_key}
 use Rattle.schedule.specs.Sends.{Send, rank_of}
-use Rattle.schedule.specs.declared.Form.TheVariants.{Good}
 use Rattle.header.specs.declared.Header.{Header}
 use Rattle.schedule.proofs.Fits.{fitting_told}
 use Rattle.contents.specs.Contents.{entries_of_tray, faulty_of, header_of, is_faulty, items_in, sends_of}
@@ -56,67 +55,59 @@ pub record Fair (s : List ℕ) (n f : ℕ) (x : Send) : Type 0 where
   pub size_most : length x.message ≤ message_most
   pub bytes : AreBytes x.message
 
-module _ (s : List ℕ) (n f : ℕ) (good : form_of s ≡ Good n f) where
-  is : Held s n f
-  is = held s n f good
+module _ (s : List ℕ) (h : Header) (good : form_of s ≡ Ok h) where
+  is : Held s h
+  is = held s h good
 
-  same_n : is.header.n ≡ n
-  same_n = is.sends.nodes
-
-  same_f : is.header.f ≡ f
-  same_f = is.sends.faults
-
-  -- the header holds n and f
-  pub good_header : ((header_of s).n ≡ n) × ((header_of s).f ≡ f)
-  good_header =
-      let e = header_is s is.header is.read in
-      (ap (λ (h : Header). h.n) e ∙ same_n, ap (λ (h : Header). h.f) e ∙ same_f)
+  -- the header that is read is the one that the form hands on
+  pub good_header : header_of s ≡ h
+  good_header = header_is s h is.read
 
   -- 1 to 16 nodes, and 2f < n
-  pub good_sizes : (sized n ≡ true) × (2 * f < n)
-  good_sizes = (ap sized (sym same_n) ∙ is.whole.nodes, omega (arith, is.whole.half, same_n, same_f))
+  pub good_sizes : (sized h.n ≡ true) × (2 * h.f < h.n)
+  good_sizes = (is.whole.nodes, is.whole.half)
 
   -- at most f faulty nodes
-  pub faulty_few : length (faulty_of s) ≤ f
-  faulty_few = omega (arith, ap length (faulty_is s is.header is.read is.whole), is.whole.few, same_f)
+  pub faulty_few : length (faulty_of s) ≤ h.f
+  faulty_few = omega (arith, ap length (faulty_is s h is.read is.whole), is.whole.few)
 
   -- strictly ascending
   pub faulty_ascends : ascends (faulty_of s) ≡ true
   unfolding is_batch
   faulty_ascends =
-      let b = line_batch faulty_key (Below is.header.n) (get_or (drop 1 (drop 1 (lines_of s))) 0 []) is.whole.faulty is.whole.listed in
-      ap ascends (faulty_is s is.header is.read is.whole)
+      let b = line_batch faulty_key (Below h.n) (get_or (drop 1 (drop 1 (lines_of s))) 0 []) is.whole.faulty is.whole.listed in
+      ap ascends (faulty_is s h is.read is.whole)
       ∙ (both (leb (length is.whole.faulty) batch_most) (ascends is.whole.faulty) b).1
 
   -- a faulty node is one of the n
-  pub faulty_node : (j : ℕ) → is_faulty s j ≡ true → j < n
+  pub faulty_node : (j : ℕ) → is_faulty s j ≡ true → j < h.n
   faulty_node j q =
-      let i : In j is.whole.faulty = subst (In j) (faulty_is s is.header is.read is.whole) (held_in j (faulty_of s) q) in
-      let r = line_read faulty_key (Below is.header.n) (get_or (drop 1 (drop 1 (lines_of s))) 0 []) is.whole.faulty is.whole.listed j i in
-      omega (arith, below_small is.header.n r.0 j r.1, same_n)
+      let i : In j is.whole.faulty = subst (In j) (faulty_is s h is.read is.whole) (held_in j (faulty_of s) q) in
+      let r = line_read faulty_key (Below h.n) (get_or (drop 1 (drop 1 (lines_of s))) 0 []) is.whole.faulty is.whole.listed j i in
+      omega (arith, below_small h.n r.0 j r.1)
 
   -- counted among the n
-  pub faulty_count : count (is_faulty s) n ≤ f
-  faulty_count = omega (arith, count_listed (faulty_of s) n, faulty_few)
+  pub faulty_count : count (is_faulty s) h.n ≤ h.f
+  faulty_count = omega (arith, count_listed (faulty_of s) h.n, faulty_few)
 
   -- sends ascend strictly by round, from, to
   pub sends_ascend : ascends (map rank_of (sends_of s)) ≡ true
   sends_ascend = rest_ascends 0 (map rank_of (sends_of s)) is.sends.order
 
   -- what is asked of a send
-  pub good_send : (x : Send) → In x (sends_of s) → Fair s n f x
+  pub good_send : (x : Send) → In x (sends_of s) → Fair s h.n h.f x
   good_send x i =
-      let t = fitting_told is.header x.round x.from x.to (length x.message) (is.sends.fit x i) in
-      let from = bit_faulty s is.header is.read x.from t.from in
-      let most = sized_most is.header.n is.whole.nodes in
-      let to : x.to < is.header.n = t.node in
+      let t = fitting_told h x.round x.from x.to (length x.message) (is.sends.fit x i) in
+      let from = bit_faulty s h is.read x.from t.from in
+      let most = sized_most h.n is.whole.nodes in
+      let to : x.to < h.n = t.node in
       record {
         round_least = t.early;
-        round_most = omega (arith, t.late, same_f);
+        round_most = t.late;
         from_faulty = from.1;
         from_node = faulty_node x.from from.1;
-        to_node = omega (arith, same_n);
-        to_correct = bit_correct s is.header is.read x.to (omega arith) t.to;
+        to_node = to;
+        to_correct = bit_correct s h is.read x.to (omega arith) t.to;
         size_least = t.least;
         size_most = t.most;
         bytes = sends_bytes s x i;
@@ -127,8 +118,8 @@ module _ (s : List ℕ) (n f : ℕ) (good : form_of s ≡ Good n f) where
 tray_told : (s : List ℕ) (i : ℕ) (o : Option (List ℕ)) → list_line tray_key Entry (get_or (lines_of s) (header_size + i) []) ≡ o
     → (is_batch (items_in o) ≡ true) × AreEntries (items_in o)
 unfolding items_in is_batch
-tray_told s i none e = (refl, λ k. omega arith)
-tray_told s i (some xs) e = (line_batch tray_key Entry (get_or (lines_of s) (header_size + i) []) xs e, small)
+tray_told s i None e = (refl, λ k. omega arith)
+tray_told s i (Some xs) e = (line_batch tray_key Entry (get_or (lines_of s) (header_size + i) []) xs e, small)
   where
     small : (k : ℕ) → get_or xs k 0 < 2 ^ 64
     small k = ⊎_elim inside outside (lt_or_ge k (length xs))

@@ -1,3 +1,4 @@
-pub mod Digits
+pub mod Ascent
 pub mod Reading
 pub mod Writing
+pub mod Digits

@@ -29,9 +29,8 @@ const BEYOND: u64 = 4096 * INTERVAL + WATT_HOURS_MOST;
 
 // A bar of a meter.
 fn bar(log: &[u64], meter: u16, first: u16, last: u16) {
-    let answer = reading_log::bar(log, meter, first, last);
-    page::number(answer.number as u64);
-    page::number(answer.sum);
+    let sum = page::answer(reading_log::bar(log, meter, first, last), 0);
+    page::number(sum);
 }
 
 fn bar_of_four(third: u64, meter: u16, first: u16, last: u16) {
@@ -41,10 +40,8 @@ fn bar_of_four(third: u64, meter: u16, first: u16, last: u16) {
 
 // Meter 0 in each interval from 0 on, always with the most watt-hours.
 fn fill(log: &mut [u64]) {
-    let mut i: usize = 0;
-    while i < log.len() {
-        log[i] = i as u64 % 65536 * INTERVAL + WATT_HOURS_MOST;
-        i += 1;
+    for (i, entry) in log.iter_mut().enumerate() {
+        *entry = i as u64 % 65536 * INTERVAL + WATT_HOURS_MOST;
     }
 }
 

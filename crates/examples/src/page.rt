@@ -1,4 +1,6 @@
 // The page: what stands before a blank is copied, and an answer written in the blank's place.
+use rules::Refusal;
+
 const BLANK: u8 = b'?';
 // Bytes from one blank to the next, at most.
 const COPIED_MOST: usize = 4096;
@@ -17,12 +19,10 @@ fn copy_one() -> bool {
 
 // Copies the page to the next blank, or to the end.
 pub(crate) fn copy() {
-    let mut left: usize = COPIED_MOST;
-    while 0 < left {
+    for _ in 0..COPIED_MOST {
         if !copy_one() {
             return;
         }
-        left -= 1;
     }
 }
 
@@ -31,41 +31,37 @@ pub(crate) fn number(v: u64) {
     io::print_decimal(1, v);
 }
 
+pub(crate) fn refusal(row: Refusal) {
+    number(u64::from(u8::from(row)));
+}
+
+// The number of an answer, 0 where it is done; its value is handed back, or what stands in its place where it is refused.
+pub(crate) fn answer<T: Copy>(answer: Result<T, Refusal>, nothing: T) -> T {
+    match answer {
+        Ok(value) => {
+            number(0);
+            value
+        }
+        Err(row) => {
+            refusal(row);
+            nothing
+        }
+    }
+}
+
 pub(crate) fn unreadable() {
     copy();
     io::write_all(1, b"unreadable");
 }
 
-// One number of several.
-fn item(v: u64) {
-    io::write_all(1, b" ");
-    io::print_decimal(1, v);
-}
-
-fn wide(x: u8) -> u64 {
-    x as u64
-}
-
-// The first `count` bytes, a space before each.
-pub(crate) fn bytes(s: &[u8], count: usize) {
+// The first `count` numbers, bytes or entries, a space before each.
+pub(crate) fn numbers<T: Copy>(s: &[T], count: usize)
+where
+    u64: From<T>,
+{
     copy();
-    let mut i: usize = 0;
-    while i < s.len() {
-        if i < count {
-            item(wide(s[i]));
-        }
-        i += 1;
-    }
-}
-
-// The first `count` entries, a space before each.
-pub(crate) fn entries(s: &[u64], count: usize) {
-    copy();
-    let mut i: usize = 0;
-    while i < s.len() {
-        if i < count {
-            item(s[i]);
-        }
-        i += 1;
+    for v in s.iter().take(count) {
+        io::write_all(1, b" ");
+        io::print_decimal(1, u64::from(*v));
     }
 }

@@ -1,55 +1,42 @@
 // The wire: records, messages, inboxes.
 use crate::page;
-use wire::{Message, Record, Written};
 
 fn record(n: usize, part: &[u8]) {
     match wire::read_record(n, part) {
-        Record::Vote {
-            primary,
-            mask,
-            count,
-            next,
-        } => {
-            page::number(primary as u64);
-            page::number(mask as u64);
-            page::number(count as u64);
-            page::number(next as u64);
+        Ok(Some(vote)) => {
+            page::number(vote.primary as u64);
+            page::number(u64::from(vote.mask));
+            page::number(vote.count as u64);
+            page::number(vote.next as u64);
         }
-        Record::Unreadable => page::unreadable(),
-        Record::Refused => page::number(1),
+        Ok(None) => page::unreadable(),
+        Err(row) => page::refusal(row),
     }
 }
 
 // A record that is a whole message: the bytes of its entries, and how many votes the message has.
 fn message(n: usize, part: &[u8]) {
     record(n, part);
-    page::bytes(wire::batch_bytes(n, part), part.len());
+    page::numbers(wire::batch_bytes(n, part), part.len());
     match wire::read_message(n, part) {
-        Message::Votes(count) => page::number(count as u64),
-        Message::Unreadable => page::unreadable(),
-        Message::Refused => page::number(1),
-    }
-}
-
-fn size(answer: Written) -> u64 {
-    match answer {
-        Written::Length(size) => size as u64,
-        Written::Refused(_) => 0,
+        Ok(Some(votes)) => page::number(votes as u64),
+        Ok(None) => page::unreadable(),
+        Err(row) => page::refusal(row),
     }
 }
 
 fn inbox(n: usize, inbox: &[u8]) {
-    let heard = wire::read_inbox(n, 0, inbox);
-    page::number(heard.number as u64);
-    page::number(heard.unreadable as u64);
+    let unreadable = page::answer(wire::read_inbox(n, 0, inbox), 0);
+    page::number(u64::from(unreadable));
 }
 
 // The vote of P2, into an output with a place to spare: entry 3.5.70 is 3 × 2^48 + 5 × 2^32 + 70.
 fn write() {
     let batch = [844446404968518u64];
     let mut output = [7u8; 13];
-    page::number(size(wire::write_record(3, 0, 1, &batch, &mut output)));
-    page::bytes(&output, 13);
+    let size = wire::write_record(3, 0, 1, &batch, &mut output).unwrap_or(0);
+    page::number(size as u64);
+    page::numbers(&output, 13);
 }
 
 fn seventeen_entries() {

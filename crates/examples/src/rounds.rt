@@ -1,6 +1,7 @@
 // A node: its opening, its rounds, its close.
 use crate::page;
 use node::Node;
+use step::Stepped;
 use tray::Tray;
 
 // A node that opens with so many of two entries, and the record that it sends.
@@ -10,32 +11,32 @@ fn opened(n: usize, f: usize, me: usize, count: usize, first: u64, second: u64) 
         entries: [first, second, 0, 0, 0, 0, 0, 0, 0, 0, 0, 0, 0, 0, 0, 0],
     };
     let mut outbox = [0u8; 20];
-    let answer = node::open(Node::new(n, f, me).node, tray, &mut outbox);
-    page::number(answer.number as u64);
-    page::bytes(&outbox, answer.length);
-    answer.node
+    let mut node = Node::new(n, f, me).unwrap_or(Node::zeros());
+    let length = page::answer(node::open(&mut node, &tray, &mut outbox), 0);
+    page::numbers(&outbox, length);
+    node
 }
 
 // A round: the senders that were unreadable, what is passed on, how many batches of primary 0 are kept.
-fn stepped(node: Node, inbox: &[u8]) -> Node {
+fn stepped(mut node: Node, inbox: &[u8]) -> Node {
     let mut outbox = [0u8; 36];
-    let answer = step::step(node, inbox, &mut outbox);
-    page::number(answer.number as u64);
-    page::number(answer.unreadable as u64);
-    page::bytes(&outbox, answer.length);
-    let after = answer.node;
-    let its = after.kept[0];
-    page::number(its.count as u64);
-    after
+    let nothing = Stepped {
+        length: 0,
+        unreadable: 0,
+    };
+    let told = page::answer(step::step(&mut node, inbox, &mut outbox), nothing);
+    page::number(u64::from(told.unreadable));
+    page::numbers(&outbox, told.length);
+    page::number(node.kept[0].count as u64);
+    node
 }
 
 // A close, and the first two places of its output.
 pub(crate) fn closed(node: Node, old: &[u64]) {
     let mut output = [7u64; rules::LOG_MOST + 1];
-    let answer = closing::close(node, old, &mut output);
-    page::number(answer.number as u64);
-    page::number(answer.length as u64);
-    page::entries(&output, 2);
+    let length = page::answer(closing::close(node, old, &mut output), 0);
+    page::number(length as u64);
+    page::numbers(&output, 2);
 }
 
 // A node alone, its rounds over: opened with so many of two entries, one round with two zero bytes.

@@ -5,9 +5,8 @@ use signing::{MARK_SIZE, SLOT_SIZE, signers};
 // The signers that node 0 of n counts.
 fn counted(n: usize, f: usize, slots: &[u8]) {
     let mark = [0u8; MARK_SIZE];
-    let answer = signers(n, f, 0, &mark, slots);
-    page::number(answer.number as u64);
-    page::number(answer.mask as u64);
+    let mask = page::answer(signers(n, f, 0, &mark, slots), 0);
+    page::number(u64::from(mask));
 }
 
 // Of three nodes one may be faulty; node 1's slot has this first byte and this last one, the others' are silent.

@@ -22,11 +22,8 @@ fn tray_of_three(behind: u64) -> Tray {
 
 // What the tray answers, and holds afterwards.
 fn handed_in(tray: Tray, entry: u64) {
-    let answer = tray::with_entry(tray, entry);
-    page::number(answer.number as u64);
-    let after = answer.tray;
-    let entries = after.entries;
-    page::entries(&entries, after.count);
+    let after = page::answer(tray::with_entry(tray, entry), tray);
+    page::numbers(&after.entries, after.count);
 }
 
 pub(crate) fn all() {

@@ -1,19 +1,16 @@
 // The calls of the log: the close, the signing count, the bar.
-ghost use Rattle.closing.specs.Close.{Close};
-ghost use Rattle.signing.specs.Count.{SignersAre};
-ghost use Rattle.reading_log.specs.Bar.{BarIs};
+ghost use Rattle.host.specs.Told.{TellsClose, TellsSigners, TellsBar};
 
-use closing::Closed;
+use crate::{Closed, MeterBar, SigningCount};
 use node::Node;
-use reading_log::MeterBar;
-use signing::{MARK_SIZE, SigningCount};
+use signing::MARK_SIZE;
 
 // `closing::close`.
 #[unsafe(no_mangle)]
 pub extern "C" fn raudokiin_close(node: Node, old: &[u64], output: &mut [u64]) -> Closed
-    ensures { Close node old.now output.old result output.new }
+    ensures { TellsClose node old.now output.old result output.new }
 {
-    closing::close(node, old, output)
+    Closed::from(closing::close(node, old, output))
 }
 
 // `signing::signers`.
@@ -25,15 +22,15 @@ pub extern "C" fn raudokiin_signers(
     mark: &[u8; MARK_SIZE],
     slots: &[u8],
 ) -> SigningCount
-    ensures { SignersAre n f me mark.now slots.now result }
+    ensures { TellsSigners n f me mark.now slots.now result }
 {
-    signing::signers(n, f, me, mark, slots)
+    SigningCount::from(signing::signers(n, f, me, mark, slots))
 }
 
 // `reading_log::bar`.
 #[unsafe(no_mangle)]
 pub extern "C" fn raudokiin_bar(log: &[u64], meter: u16, first: u16, last: u16) -> MeterBar
-    ensures { BarIs log.now meter first last result }
+    ensures { TellsBar log.now meter first last result }
 {
-    reading_log::bar(log, meter, first, last)
+    MeterBar::from(reading_log::bar(log, meter, first, last))
 }

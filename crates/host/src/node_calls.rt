@@ -1,41 +1,43 @@
 // The calls of the tray and of the node.
-ghost use Rattle.tray.specs.Put.{Put};
-ghost use Rattle.node.specs.State.{New};
-ghost use Rattle.node.specs.Opening.{Open};
-ghost use Rattle.step.specs.Step.{Step};
+ghost use Rattle.host.specs.Told.{TellsPut, TellsNew, TellsOpen, TellsStep};
 
-use node::{Made, Node, Opened};
-use step::Stepped;
+use crate::number::told;
+use crate::{Made, Opened, Stepped};
+use node::Node;
 use tray::Tray;
 
 // `tray::put`, on the very tray that C lends.
 #[unsafe(no_mangle)]
 pub extern "C" fn raudokiin_put(tray: &mut Tray, entry: u64) -> u8
-    ensures { Put tray.old entry result tray.new }
+    ensures { TellsPut tray.old entry result tray.new }
 {
-    tray::put(tray, entry)
+    told(tray::put(tray, entry), ()).0
 }
 
 // `Node::new`.
 #[unsafe(no_mangle)]
 pub extern "C" fn raudokiin_new(n: usize, f: usize, me: usize) -> Made
-    ensures { New n f me result }
+    ensures { TellsNew n f me result }
 {
-    Node::new(n, f, me)
+    Made::from(Node::new(n, f, me))
 }
 
-// `node::open`.
+// `node::open`, on a copy of the node.
 #[unsafe(no_mangle)]
 pub extern "C" fn raudokiin_open(node: Node, tray: Tray, outbox: &mut [u8]) -> Opened
-    ensures { Open node tray outbox.old result outbox.new }
+    ensures { TellsOpen node tray outbox.old result outbox.new }
 {
-    node::open(node, tray, outbox)
+    let mut after = node;
+    let answer = node::open(&mut after, &tray, outbox);
+    Opened::of(answer, after)
 }
 
-// `step::step`.
+// `step::step`, on a copy of the node.
 #[unsafe(no_mangle)]
 pub extern "C" fn raudokiin_step(node: Node, inbox: &[u8], outbox: &mut [u8]) -> Stepped
-    ensures { Step node inbox.now outbox.old result outbox.new }
+    ensures { TellsStep node inbox.now outbox.old result outbox.new }
 {
-    step::step(node, inbox, outbox)
+    let mut after = node;
+    let answer = step::step(&mut after, inbox, outbox);
+    Stepped::of(answer, after)
 }

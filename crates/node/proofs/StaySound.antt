@@ -1,6 +1,6 @@
 -- Soundness is kept: a fresh node is sound, and an opening leaves a sound state sound. An outbox with room for the longest record is never too short.
 use Prim.Native.Nat.{ℕ, zero, suc, ◌≤◌}
-use mathlib.Core.Path.{◌≡◌, refl, sym, ap, ◌∙◌}
+use mathlib.Core.Path.{◌≡◌, refl, ap, ◌∙◌}
 use mathlib.Core.Logic.{◌≢◌}
 use mathlib.Core.Bool.{Bool, true, false, ◌&&◌}
 use mathlib.Core.List.{List, []}
@@ -8,11 +8,14 @@ use native.Mathlib.Omega.{arith}
 use borrow.Author.Tests.{le-leb, leb-true, eqb-true}
 use lib.Dec.{leb, eqb}
 use lib.ListN.{length}
+use Rattle.std.proofs.Common.{Result, Ok}
 use Rattle.laws.proofs.Tests.{both}
 use Rattle.rules.specs.Sizes.{sizes}
 use Rattle.rules.specs.Refusals.{done, if_done}
 use Rattle.rules.specs.Vote.{opened}
+use Rattle.rules.specs.declared.refusal.Refusal.{Refusal}
 use Rattle.rules.proofs.Refusals.{row_passed}
+use Rattle.rules.proofs.Answers.{given}
 use Rattle.wire.specs.Sizes.{record_most}
 use Rattle.wire.specs.Record.{record_bytes}
 use Rattle.wire.proofs.Writings.{record_length}
@@ -22,8 +25,6 @@ use Rattle.tray.proofs.Sound.{batch_parts, sound_parts}
 use Rattle.node.specs.State.{may_keep, sound_node, fresh, New}
 use Rattle.node.specs.Opening.{opening_vote, opened_node, open_number, Open}
 use Rattle.node.specs.declared.Node.{Node}
-use Rattle.node.specs.declared.Made.{Made}
-use Rattle.node.specs.declared.Opened.{Opened}
 use Rattle.node.proofs.Lists.{empty_is_batch, batch_is_sound}
 use Rattle.node.proofs.Sound.{sound_told, told_sound, of_is_sound}
 
@@ -41,12 +42,12 @@ fresh_is_sound n f me h =
     })
 
 -- a node that is made is the fresh node of sizes that hold
-module _ (n f me : ℕ) (answer : Made) (r : New n f me answer) (d : answer.number ≡ done) where
+module _ (n f me : ℕ) (node : Node) (r : New n f me (Ok node)) where
   pub made_sizes : sizes n f me ≡ true
-  made_sizes = (row_passed 0 (sizes n f me) done (sym r.number ∙ d)).0
+  made_sizes = (row_passed 0 (sizes n f me) done (given r).0).0
 
-  pub made_is_fresh : answer.node ≡ fresh n f me
-  made_is_fresh = r.node ∙ ap (λ (k : ℕ). if_done k (fresh n f me) (fresh 0 0 0)) (sym r.number ∙ d)
+  pub made_is_fresh : node ≡ fresh n f me
+  made_is_fresh = (given r).1
 
 -- ---- opening
 
@@ -82,8 +83,8 @@ module _ (s : Node) (t : Tray) where
       })
 
   -- whatever an opening answers, a sound state stays sound
-  pub open_stays_sound : (out : List ℕ) (answer : Opened) (after : List ℕ) → sound_node s ≡ true → Open s t out answer after → sound_node answer.node ≡ true
-  open_stays_sound out answer after h o = ap sound_node o.node ∙ go (open_number s t (length out)) refl
+  pub open_stays_sound : (out : List ℕ) (answer : Result ℕ Refusal) (now : Node) (after : List ℕ) → sound_node s ≡ true → Open s t out answer now after → sound_node now ≡ true
+  open_stays_sound out answer now after h o = ap sound_node o.node_is ∙ go (open_number s t (length out)) refl
     where
       go : (k : ℕ) → open_number s t (length out) ≡ k → sound_node (if_done k (opened_node s t) s) ≡ true
       go zero e = let c = open_found (length out) e in opened_is_sound h c.fine c.unopened

@@ -1,41 +1,25 @@
 -- What is held, numbered, spoken and counted is what the logs of the correct nodes give.
-use Prim.Native.Nat.{ℕ, ◌+◌, ◌*◌, ◌≤◌, ◌<◌}
+use Prim.Native.Nat.{ℕ, ◌*◌, ◌≤◌, ◌<◌}
 use mathlib.Core.Path.{◌≡◌, refl, sym, ap, ap₂, ◌∙◌}
-use mathlib.Core.Logic.{◌≢◌, ⊎_elim}
 use mathlib.Core.Bool.{Bool, false}
 use mathlib.Core.List.{List}
-use native.Mathlib.Nat.{not-suc-le-zero, le_of_suc-le-suc, eq-or-lt_of_le, le_trans}
-use native.Mathlib.Numerals.{add-one}
-use native.Mathlib.Omega.{arith}
-use lib.ListN.{length, get_or, set, take, drop}
-use lib.Seq.{take_at, get_or-set_same, get_or-set_other}
+use native.Mathlib.Nat.{le_trans}
+use lib.ListN.{length, get_or, take, drop}
+use lib.Seq.{take_at}
 use Rattle.laws.specs.Parts.{onto}
 use Rattle.rules.specs.Sizes.{nodes_most}
-use Rattle.rules.specs.Signers.{Mark}
+use Rattle.entries.specs.Places.{held_in}
+use Rattle.entries.specs.declared.places.Places.{Places}
+use Rattle.closing.specs.Gather.{decided_most}
 use Rattle.signing.specs.Slots.{slot_size}
 use Rattle.outcome.specs.Marks.{mark_with, mark_at}
 use Rattle.outcome.specs.Spoken.{slots_with, slots_at}
 use Rattle.outcome.specs.Signing.{counted_with, mask_at}
-use Rattle.outcome.specs.Held.{held_at, log_in, AllHeld, Numbered, AllCounted}
-use Rattle.outcome.specs.declared.HeldLog.{HeldLog}
+use Rattle.outcome.specs.Held.{log_at, AllHeld, Numbered, AllCounted}
 use Rattle.outcome.specs.declared.marks.Numbers.{Numbers}
 use Rattle.outcome.proofs.Made.{held_log}
 use Rattle.outcome.proofs.Speaking.{mark_size_lem, slots_size}
 use Rattle.outcome.proofs.Alike.{slots_same, mark_same}
-
--- ---- the signers of one node after the other
-
-module _ (n f : ℕ) (mark : ℕ → Mark) (slots : List ℕ) where
-  pub none_counted : (masks : List ℕ) → AllCounted n f mark slots 0 masks
-  none_counted masks j l = absurd (not-suc-le-zero l)
-
-  pub one_more_counted : (i : ℕ) (masks : List ℕ) (m : ℕ) → i < length masks → AllCounted n f mark slots i masks → m ≡ counted_with n f i (mark i) slots
-      → AllCounted n f mark slots (i + 1) (set masks i m)
-  one_more_counted i masks m l h e j k =
-      ⊎_elim
-      (λ q. rw q (get_or-set_same masks i m 0 l ∙ e))
-      (λ q. let ne : j ≢ i = λ z. omega arith in get_or-set_other masks i j m 0 ne ∙ h j q)
-      (eq-or-lt_of_le (le_of_suc-le-suc (rw (sym (add-one i)) k)))
 
 -- the slots that were written are the first bytes of the places
 pub spoken_part : (t : ℕ → Bool) (numbers : List ℕ) (n : ℕ) (places after : List ℕ) (size : ℕ) → size ≡ slot_size * n
@@ -46,13 +30,13 @@ spoken_part t numbers n places after size z e =
 
 -- ---- by the logs
 
-module _ (n f : ℕ) (t : ℕ → Bool) (log : ℕ → List ℕ) (held : List HeldLog) (h : AllHeld log nodes_most held) (most : n ≤ nodes_most)
-    (x : Numbers) (num : Numbered t (λ j. log_in (held_at held j)) n x) where
-  its_log : (j : ℕ) → j < n → t j ≡ false → log_in (held_at held j) ≡ log j
-  its_log j l e = ap log_in (h j (le_trans l most)) ∙ held_log (log j)
+module _ (n f : ℕ) (t : ℕ → Bool) (log : ℕ → List ℕ) (held : List (Places decided_most)) (h : AllHeld log nodes_most held) (most : n ≤ nodes_most)
+    (x : Numbers) (num : Numbered t (log_at held) n x) where
+  its_log : (j : ℕ) → j < n → t j ≡ false → log_at held j ≡ log j
+  its_log j l e = ap held_in (h j (le_trans l most)) ∙ held_log (log j)
 
   its_mark : (j : ℕ) → j < n → t j ≡ false → mark_with (get_or x.of j 0) ≡ mark_at t log n j
-  its_mark j l e = ap mark_with (num.each j l e) ∙ mark_same n t t (λ k m. refl) (λ k. log_in (held_at held k)) log its_log j l e
+  its_mark j l e = ap mark_with (num.each j l e) ∙ mark_same n t t (λ k m. refl) (log_at held) log its_log j l e
 
   its_slots : slots_with t (λ j. mark_with (get_or x.of j 0)) n ≡ slots_at t log n
   its_slots = slots_same n t t (λ k m. refl) (λ j. mark_with (get_or x.of j 0)) (mark_at t log n) its_mark

@@ -1,3 +1,4 @@
+pub mod Answered
 pub mod Made
 pub mod Numbering
 pub mod Speaking

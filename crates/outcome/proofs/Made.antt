@@ -1,25 +1,27 @@
 -- The log that a node makes is what its close writes over empty places; it has no more entries than there are places.
 use Prim.Native.Nat.{ℕ, zero, suc, ◌+◌, ◌*◌, ◌≤◌, ◌<◌}
-use mathlib.Core.Path.{◌≡◌, refl, sym, ap, ◌∙◌}
-use mathlib.Core.Logic.{◌≢◌, ⊎_elim, inl}
+use mathlib.Core.Path.{◌≡◌, refl, ap, ◌∙◌}
+use mathlib.Core.Logic.{inl}
 use mathlib.Core.Bool.{Bool, true, false, cond}
 use mathlib.Core.List.{List, [], ◌∷◌}
-use native.Mathlib.Nat.{not-suc-le-zero, le_of_suc-le-suc, eq-or-lt_of_le}
-use native.Mathlib.Numerals.{add-one}
 use native.Mathlib.Omega.{arith}
 use borrow.Author.Tests.{le-leb, leb-true}
 use lib.Dec.{eqb, leb}
-use lib.ListN.{length, drop, set, replicate}
-use lib.Seq.{take_at, get_or-set_same, get_or-set_other}
+use lib.ListN.{length, drop, replicate}
+use lib.Seq.{take_at}
+use Rattle.std.specs.Prelude.{Result}
+use Rattle.std.specs.Result.{result_unwrap_or}
 use Rattle.laws.specs.Members.{In}
 use Rattle.laws.specs.Parts.{onto}
-use Rattle.laws.proofs.Lent.{onto_length}
 use Rattle.rules.specs.Sizes.{nodes_most, batch_most, fits, is_batch, is_log}
 use Rattle.rules.specs.Refusals.{refuse◌unless◌then◌, if_done}
 use Rattle.rules.specs.Step.{gather}
 use Rattle.rules.specs.Log.{only_kept, decision, decisions, joined}
 use Rattle.rules.proofs.Refusals.{row_passed, done_length, done_onto}
 use Rattle.rules.proofs.Joins.{join_most, joined_more}
+use Rattle.rules.specs.declared.refusal.Refusal.{Refusal}
+use Rattle.entries.specs.Places.{held_in}
+use Rattle.entries.specs.declared.places.Places.{Places}
 use Rattle.node.specs.Batches.{entries_of}
 use Rattle.node.specs.State.{kept_for, sound_node}
 use Rattle.node.specs.declared.Node.{Node}
@@ -27,21 +29,24 @@ use Rattle.node.proofs.Sound.{sound_right, sound_sizes}
 use Rattle.tray.proofs.Sound.{batch_parts}
 use Rattle.closing.specs.Close.{new_log_of, close_number, Close}
 use Rattle.closing.specs.Gather.{decided_most}
-use Rattle.closing.specs.declared.Closed.{Closed}
 use Rattle.outcome.specs.Logs.{made_log}
-use Rattle.outcome.specs.Held.{held_as, log_in, AllFit, AllHeld}
-use Rattle.outcome.specs.declared.HeldLog.{HeldLog}
+use Rattle.outcome.specs.Held.{held_as}
+use Rattle.outcome.proofs.Answered.{answered_or}
 
 -- ---- one log
 
-pub close_holds : (s : Node) (r : Closed) (after : List ℕ) → Close s [] (replicate decided_most 0) r after
-    → ◌≡◌ {A = HeldLog} (record { count = r.length; entries = after }) (held_as (made_log s))
+-- what the close leaves in empty places is the log, held
+pub close_holds : (s : Node) (r : Result ℕ Refusal) (after : List ℕ) → Close s [] (replicate decided_most 0) r after → (k : ℕ) → k ≡ result_unwrap_or r 0
+    → ◌≡◌ {A = Places decided_most} (record { count = k; entries = after }) (held_as (made_log s))
 unfolding made_log
-close_holds s r after h =
-    let e : r.length ≡ length (if_done (close_number s [] decided_most) (new_log_of s []) []) = h.size ∙ done_length (close_number s [] decided_most) (new_log_of s []) in
-    let p : after ≡ onto (if_done (close_number s [] decided_most) (new_log_of s []) []) (replicate decided_most 0) =
-    h.output_is ∙ done_onto (close_number s [] decided_most) (new_log_of s []) (replicate decided_most 0) in
+close_holds s r after h k q =
+    let number : ℕ = close_number s [] decided_most in
+    let e : k ≡ length (if_done number (new_log_of s []) []) = q ∙ answered_or number (length (new_log_of s [])) 0 r h.answers ∙ done_length number (new_log_of s []) in
+    let p : after ≡ onto (if_done number (new_log_of s []) []) (replicate decided_most 0) = h.output_is ∙ done_onto number (new_log_of s []) (replicate decided_most 0) in
     λ i. record { count = e i; entries = p i }
+
+pub held_log : (log : List ℕ) → held_in (held_as log) ≡ log
+held_log log = take_at log (drop (length log) (replicate decided_most 0)) (length log) refl
 
 -- a close that is not refused has room for the new log
 room_passed : (s : Node) (room : ℕ) → close_number s [] room ≡ 0 → length (new_log_of s []) ≤ room
@@ -63,29 +68,6 @@ log_most_lem s = go (close_number s [] decided_most) refl
     go : (row : ℕ) → close_number s [] decided_most ≡ row → length (if_done row (new_log_of s []) []) ≤ decided_most
     go zero e = room_passed s decided_most e
     go (suc row) e = omega arith
-
--- ---- all logs
-
-pub held_log : (log : List ℕ) → log_in (held_as log) ≡ log
-held_log log = take_at log (drop (length log) (replicate decided_most 0)) (length log) refl
-
-module _ (log : ℕ → List ℕ) where
-  pub none_held : (logs : List HeldLog) → AllHeld log 0 logs
-  none_held logs j l = absurd (not-suc-le-zero l)
-
-  -- one turn: the log of node i is held too
-  pub one_held : (i : ℕ) (logs : List HeldLog) (held : HeldLog) → i < length logs → AllHeld log i logs → held ≡ held_as (log i) → AllHeld log (i + 1) (set logs i held)
-  one_held i logs held l h e j m =
-      ⊎_elim
-      (λ q. rw q (get_or-set_same logs i held _ l ∙ e))
-      (λ q. let ne : j ≢ i = λ z. omega arith in get_or-set_other logs i j held _ ne ∙ h j q)
-      (eq-or-lt_of_le (le_of_suc-le-suc (rw (sym (add-one i)) m)))
-
-  pub held_fit : ((j : ℕ) → length (log j) ≤ decided_most) → (logs : List HeldLog) → AllHeld log nodes_most logs → AllFit logs
-  held_fit most logs h j l =
-      let e = h j l in
-      let places : length (onto (log j) (replicate decided_most 0)) ≡ decided_most = onto_length (log j) (replicate decided_most 0) (most j) in
-      record { few = omega (arith, ap (λ (x : HeldLog). x.count) e, most j); places = ap (λ (x : HeldLog). length x.entries) e ∙ places }
 
 -- ---- the log of a sound node after the last round
 

@@ -10,12 +10,12 @@ use native.Mathlib.Omega.{arith}
 use borrow.Author.Tests.{not-true}
 use lib.ListN.{length, get_or, set, length-append, length-set}
 use lib.Seq.{get_or-set_same, get_or-set_other}
+use Rattle.std.specs.Prelude.{Option, Some, None, MatchOption}
 use Rattle.laws.specs.Members.{same, among}
 use Rattle.laws.proofs.Members.{same_eq, same_self}
 use Rattle.laws.proofs.Tests.{both, clash, neither}
 use Rattle.rules.specs.Sizes.{nodes_most}
 use Rattle.outcome.specs.Marks.{place_in, distinct}
-use Rattle.outcome.specs.Signing.{has_bit}
 use Rattle.outcome.specs.Held.{Numbered, FirstAlike}
 use Rattle.outcome.specs.declared.marks.Numbers.{Numbers}
 
@@ -137,24 +137,23 @@ module _ (t : ℕ → Bool) (log : ℕ → List ℕ) where
       within = omega (arith, h.places)
 
       -- node i has the log of node k, and its number
-      pub old_numbered : (k : ℕ) → FirstAlike t log i k → k < i → Numbered t log (i + 1) (record { count = x.count; of = set x.of i (get_or x.of k 0) })
-      old_numbered k a l =
-          let e : log i ≡ log k = a.alike l in
-          let d : distinct t log i ≡ distinct t log (i + 1) = sym (held_adds_none i (ap (λ (y : List ℕ). among y (distinct t log i)) e ∙ its_among i k l (a.correct l))) in
+      pub old_numbered : (k : ℕ) → FirstAlike t log i (Some k) → Numbered t log (i + 1) (record { count = x.count; of = set x.of i (get_or x.of k 0) })
+      old_numbered k a =
+          let e : log i ≡ log k = a.2 in
+          let d : distinct t log i ≡ distinct t log (i + 1) = sym (held_adds_none i (ap (λ (y : List ℕ). among y (distinct t log i)) e ∙ its_among i k a.0 a.1)) in
           record {
             places = length-set x.of i _ ∙ h.places;
             count = h.count ∙ ap length d;
             each = λ j m g. ⊎_elim
-                (λ q. rw q (get_or-set_same x.of i _ 0 within ∙ h.each k l (a.correct l) ∙ ap (λ (y : List ℕ). place_in y (distinct t log i)) (sym e) ∙ ap (place_in (log i)) d))
+                (λ q. rw q (get_or-set_same x.of i _ 0 within ∙ h.each k a.0 a.1 ∙ ap (λ (y : List ℕ). place_in y (distinct t log i)) (sym e) ∙ ap (place_in (log i)) d))
                 (λ q. let ne : j ≢ i = λ z. omega arith in get_or-set_other x.of i j _ 0 ne ∙ h.each j q g ∙ ap (place_in (log j)) d)
                 (eq-or-lt_of_le (le_of_suc-le-suc (rw (sym (add-one i)) m)));
           }
 
       -- no node below has node i's log: it gets the next number
-      pub new_numbered : (k : ℕ) → FirstAlike t log i k → i ≤ k → (c : ℕ) → c ≡ x.count → Numbered t log (i + 1) (record { count = x.count + 1; of = set x.of i c })
-      new_numbered k a l c ce =
-          let z : k ≡ i = omega (arith, a.most) in
-          let none : among (log i) (distinct t log i) ≡ false = none_among (log i) i (a.none z) in
+      pub new_numbered : FirstAlike t log i None → (c : ℕ) → c ≡ x.count → Numbered t log (i + 1) (record { count = x.count + 1; of = set x.of i c })
+      new_numbered a c ce =
+          let none : among (log i) (distinct t log i) ≡ false = none_among (log i) i a in
           let d : distinct t log (i + 1) ≡ distinct t log i ++ (log i ∷ []) = new_adds_one i f none in
           record {
             places = length-set x.of i _ ∙ h.places;
@@ -172,44 +171,17 @@ module _ (t : ℕ → Bool) (log : ℕ → List ℕ) where
 
 -- ---- the first node alike
 
--- a faulty node is not alike, a correct one is by its log
-module _ (faulty k : ℕ) (alike : Bool) where
-  pub faulty_not_alike : has_bit faulty k ≡ true → false ≡ (not (has_bit faulty k) && alike)
-  faulty_not_alike e = simp e
-
-  pub alike_by_log : has_bit faulty k ≡ false → alike ≡ (not (has_bit faulty k) && alike)
-  alike_by_log e = simp e
-
 module _ (t : ℕ → Bool) (log : ℕ → List ℕ) (i : ℕ) where
-  -- none below k is alike
-  abbrev pub NoneAlike : ℕ → Type 0
-  NoneAlike k = (j : ℕ) → j < k → t j ≡ false → same (log i) (log j) ≡ false
+  -- what the search asks of node k
+  abbrev pub alike : ℕ → Bool
+  alike k = not (t k) && same (log i) (log k)
 
-  pub none_yet : NoneAlike 0
-  none_yet j l = absurd (not-suc-le-zero l)
-
-  module _ (k : ℕ) (h : NoneAlike k) where
-    pub not_alike : (not (t k) && same (log i) (log k)) ≡ false → NoneAlike (k + 1)
-    not_alike e j l f = ⊎_elim (λ q. rw q (here (t k) (ap t (sym q) ∙ f) e)) (λ q. h j q f) (eq-or-lt_of_le (le_of_suc-le-suc (rw (sym (add-one k)) l)))
-      where
-        here : (b : Bool) → b ≡ false → (not b && same (log i) (log k)) ≡ false → same (log i) (log k) ≡ false
-        here true p q = absurd (clash refl p)
-        here false p q = q
-
-    pub alike_found : k < i → (not (t k) && same (log i) (log k)) ≡ true → FirstAlike t log i k
-    alike_found l e =
-        let b = both (not (t k)) (same (log i) (log k)) e in
-        record {
-          most = omega arith;
-          correct = λ m. not-true (t k) b.0;
-          alike = λ m. same_eq (log i) (log k) b.1;
-          none = λ z. absurd (omega arith);
-        }
-
-    pub none_alike : k ≡ i → FirstAlike t log i k
-    none_alike z = record {
-      most = omega arith;
-      correct = λ m. absurd (omega arith);
-      alike = λ m. absurd (omega arith);
-      none = λ y j m f. h j (omega arith) f;
-    }
+  -- what it finds is alike
+  pub first_is : (r : Option ℕ) → MatchOption r ((j : ℕ) → 0 ≤ j → j < i → alike j ≡ false) (λ k. (0 ≤ k) × (k < i) × (alike k ≡ true) × ((j : ℕ) → 0 ≤ j → j < k → alike j ≡ false))
+      → FirstAlike t log i r
+  first_is (Some k) h = let b = both (not (t k)) (same (log i) (log k)) h.2 in (h.1, not-true (t k) b.0, same_eq (log i) (log k) b.1)
+  first_is None h = λ j l f. here (same (log i) (log j)) (t j) f (h j (omega arith) l)
+    where
+      here : (b c : Bool) → c ≡ false → (not c && b) ≡ false → b ≡ false
+      here b true p q = absurd (clash refl p)
+      here b false p q = q

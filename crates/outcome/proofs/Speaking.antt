@@ -1,21 +1,18 @@
 -- The slots of nodes stand one after the other, each of the same size: one more is written after those before it, and each is found at its place.
-use Prim.Native.Nat.{ℕ, zero, suc, ◌+◌, ◌*◌, ◌-◌, ◌≤◌, ◌<◌}
+use Prim.Native.Nat.{ℕ, zero, suc, ◌+◌, ◌*◌, ◌≤◌, ◌<◌}
 use mathlib.Core.Path.{◌≡◌, refl, sym, ap, ap₂, ◌∙◌}
 use mathlib.Core.Logic.{⊎_elim}
 use mathlib.Core.Bool.{Bool, true, false}
-use mathlib.Core.List.{List, ◌∷◌, ◌++◌}
+use mathlib.Core.List.{List, ◌∷◌, ◌++◌, append_assoc}
 use native.Mathlib.Nat.{not-suc-le-zero, le_of_suc-le-suc, eq-or-lt_of_le}
 use native.Mathlib.Numerals.{add-one}
 use native.Mathlib.Omega.{arith}
-use borrow.Author.Tests.{le-leb}
+use borrow.Rule.Slice.PartMut.{put_mid}
 use lib.ListN.{length, take, drop, replicate, length-append, length-drop}
-use lib.Seq.{length-take-le, take_all, drop_at, take-append-le, drop-append-le}
-use Rattle.laws.specs.Parts.{onto}
-use Rattle.laws.proofs.Lent.{comes_back}
+use lib.Seq.{take_at, take_all, drop_at, drop-drop, take-append-le, drop-append-le}
 use Rattle.rules.specs.Signers.{Mark}
 use Rattle.rules.specs.Step.{gather}
 use Rattle.signing.specs.Slots.{mark_size, slot_size, speaking}
-use Rattle.text.specs.Put.{Put}
 use Rattle.outcome.specs.Marks.{mark_with}
 use Rattle.outcome.specs.Spoken.{slot_with, slots_with}
 
@@ -75,21 +72,13 @@ module _ (t : ℕ → Bool) (mark : ℕ → Mark) (l : (j : ℕ) → length (mar
   unfolding gather
   none_spoken output = refl
 
-  module _ (output₀ output : List ℕ) (n j : ℕ) (m : j < n) (room : slot_size * n ≤ length output₀) (e : output ≡ slots_with t mark j ++ drop (slot_size * j) output₀) where
-    pub next_spoken : (w : List ℕ) → w ≡ slot_with (t j) (mark j) → length output ≡ length output₀ → (r : ℕ) (y : List ℕ)
-        → Put w (take (length output - slot_size * j) (drop (slot_size * j) output)) r y
-        → take (slot_size * j) output ++ (y ++ drop (length output - slot_size * j) (drop (slot_size * j) output)) ≡ slots_with t mark (j + 1) ++ drop (slot_size * (j + 1)) output₀
-    next_spoken w we size r y put =
-        let lw : length w ≡ slot_size = ap length we ∙ slot_size_lem (t j) (mark j) (l j) in
-        let rest : List ℕ = take (length output - slot_size * j) (drop (slot_size * j) output) in
-        let lr : length rest ≡ length output - slot_size * j = length-take-le (length output - slot_size * j) (drop (slot_size * j) output)
-        (omega (arith, length-drop (slot_size * j) output)) in
-        let fit : length w ≤ length rest = omega (arith, lw, lr, size) in
-        let g : y ≡ onto w rest = put.leaves ∙ simp (le-leb _ _ fit) in
-        let at : slot_size * j + length w ≡ slot_size * (j + 1) = omega (arith, lw) in
-        comes_back (slots_with t mark j) w output₀ output y (slot_size * j) (slots_size j) (omega arith) e g
-        ∙ ap₂ (λ (x : List ℕ) (k : ℕ). x ++ drop k output₀) (ap (λ (x : List ℕ). slots_with t mark j ++ x) we ∙ slots_more j) at
-
-  pub all_spoken : (output₀ output : List ℕ) (n j : ℕ) → j ≡ n → output ≡ slots_with t mark j ++ drop (slot_size * j) output₀ → output ≡ onto (slots_with t mark n) output₀
-  all_spoken output₀ output n j z e =
-      e ∙ ap (λ (k : ℕ). slots_with t mark k ++ drop (slot_size * k) output₀) z ∙ ap (λ (k : ℕ). slots_with t mark n ++ drop k output₀) (sym (slots_size n))
+  module _ (output₀ output : List ℕ) (j : ℕ) (e : output ≡ slots_with t mark j ++ drop (slot_size * j) output₀) where
+    pub next_spoken : (w : List ℕ) (k : ℕ) → w ≡ slot_with (t j) (mark j) → slot_size * j + k ≡ slot_size * (j + 1)
+        → put_mid (slot_size * j) k output w ≡ slots_with t mark (j + 1) ++ drop (slot_size * (j + 1)) output₀
+    next_spoken w k we size =
+        let front : List ℕ = slots_with t mark j in
+        let before : take (slot_size * j) output ≡ front = ap (take (slot_size * j)) e ∙ take_at front (drop (slot_size * j) output₀) (slot_size * j) (slots_size j) in
+        let behind : drop (slot_size * j) output ≡ drop (slot_size * j) output₀ = ap (drop (slot_size * j)) e ∙ drop_at front (drop (slot_size * j) output₀) (slot_size * j) (slots_size j) in
+        ap₂ (λ (x z : List ℕ). x ++ (w ++ z)) before (ap (drop k) behind ∙ drop-drop k (slot_size * j) output₀ ∙ ap (λ (i : ℕ). drop i output₀) size)
+        ∙ sym (append_assoc front w (drop (slot_size * (j + 1)) output₀))
+        ∙ ap (λ (x : List ℕ). x ++ drop (slot_size * (j + 1)) output₀) (ap (λ (x : List ℕ). front ++ x) we ∙ slots_more j)

@@ -5,35 +5,22 @@ ghost use Rattle.node.specs.State.{node_at};
 ghost use Rattle.outcome.specs.Logs.{made_log};
 ghost use Rattle.outcome.specs.Held.{AllHeld, held_as};
 
-use crate::{HeldLog, MADE_MOST};
+use crate::Log;
 use node::Node;
 use rules::NODES_MOST;
 
 // The log that a node makes.
-fn log_of(node: Node) -> HeldLog
+fn log_of(node: Node) -> Log
     ensures { result ≡ held_as (made_log node) }
 {
-    let mut entries = [0u64; MADE_MOST];
-    let closed = closing::close(node, &[], &mut entries);
-    HeldLog {
-        count: closed.length,
-        entries,
-    }
+    let mut log = Log::none();
+    log.count = closing::close(node, &[], &mut log.entries).unwrap_or(0);
+    log
 }
 
 // The log of each node.
-pub(crate) fn close_all(nodes: [Node; NODES_MOST]) -> [HeldLog; NODES_MOST]
+pub(crate) fn close_all(nodes: [Node; NODES_MOST]) -> [Log; NODES_MOST]
     ensures { AllHeld (λ j. made_log (node_at nodes j)) nodes_most result }
 {
-    let none = HeldLog {
-        count: 0,
-        entries: [0u64; MADE_MOST],
-    };
-    let mut logs = [none; NODES_MOST];
-    let mut i = 0;
-    while i < NODES_MOST {
-        logs[i] = log_of(nodes[i]);
-        i += 1;
-    }
-    logs
+    nodes.map(log_of)
 }

@@ -2,100 +2,65 @@
 ghost use Rattle.std.specs.Prelude.{◌≡◌, ◌&&◌, not, ◌+◌, ◌<◌, ◌≤◌};
 ghost use Rattle.laws.specs.Members.{same};
 ghost use Rattle.rules.specs.Sizes.{nodes_most};
-ghost use Rattle.closing.specs.Gather.{decided_most};
 ghost use Rattle.outcome.specs.Signing.{has_bit};
-ghost use Rattle.outcome.specs.Held.{AllFit, FirstAlike, held_at, log_in, Numbered};
+ghost use Rattle.outcome.specs.Held.{FirstAlike, log_at, Numbered};
 
-use crate::{HeldLog, MADE_MOST, has_bit};
+use crate::Log;
+use header::Header;
 use rules::NODES_MOST;
 
-// How many distinct logs there are, and for each correct node the number of its log.
+// How many distinct logs there are, and for each correct node the number of its log. The count is no length: it is the next new log's number.
 #[derive(Clone, Copy)]
 pub(crate) struct Numbers {
     pub count: usize,
     pub of: [u8; NODES_MOST],
 }
 
-// Whether the first of some places hold what the first of others do.
-fn is_same_log(
-    many: usize,
-    places: &[u64; MADE_MOST],
-    count: usize,
-    others: &[u64; MADE_MOST],
-) -> bool
-    requires { (many ≤ decided_most) × (count ≤ decided_most) }
-    ensures { result ≡ same (log_in (record { count = many; entries = places.now })) (log_in (record { count = count; entries = others.now })) }
-{
-    // As slices, of which parts can be lent.
-    let all: &[u64] = places;
-    let rest: &[u64] = others;
-    node::is_same(&all[..many], &rest[..count])
-}
-
 // Whether node k is correct and has node i's log.
-fn is_alike(faulty: u16, logs: [HeldLog; NODES_MOST], k: usize, i: usize) -> bool
-    requires { (k < nodes_most) × (i < nodes_most) × AllFit logs }
-    ensures { result ≡ (not (has_bit faulty k) && same (log_in (held_at logs i)) (log_in (held_at logs k))) }
+fn is_alike(header: Header, logs: &[Log; NODES_MOST], k: usize, i: usize) -> bool
+    requires { (k < nodes_most) × (i < nodes_most) }
+    ensures { result ≡ (not (has_bit header.faulty k) && same (log_at logs.now i) (log_at logs.now k)) }
 {
-    if has_bit(faulty, k) {
-        return false;
-    }
-    let its = logs[i];
-    let other = logs[k];
-    is_same_log(its.count, &its.entries, other.count, &other.entries)
+    !header.is_faulty(k) && logs[i].in_use() == logs[k].in_use()
 }
 
-// The first correct node below i that has node i's log; i where there is none.
-fn first_alike(faulty: u16, logs: [HeldLog; NODES_MOST], i: usize) -> usize
-    requires { (i < nodes_most) × AllFit logs }
-    ensures { FirstAlike (has_bit faulty) (λ j. log_in (held_at logs j)) i result }
+// The first correct node below i that has node i's log.
+fn first_alike(header: Header, logs: &[Log; NODES_MOST], i: usize) -> Option<usize>
+    requires { i < nodes_most }
+    ensures { FirstAlike (has_bit header.faulty) (log_at logs.now) i result }
 {
-    let mut k = 0;
-    while k < i {
-        if is_alike(faulty, logs, k, i) {
-            return k;
-        }
-        k += 1;
-    }
-    k
+    (0..i).find(|k| is_alike(header, logs, *k, i))
 }
 
 // The logs of the nodes below i are numbered: so they are with node i's, where it is correct.
-fn with_number(numbers: Numbers, faulty: u16, logs: [HeldLog; NODES_MOST], i: usize) -> Numbers
-    requires { (i < nodes_most) × AllFit logs × Numbered (has_bit faulty) (λ j. log_in (held_at logs j)) i numbers }
-    ensures { Numbered (has_bit faulty) (λ j. log_in (held_at logs j)) (i + 1) result }
+fn with_number(mut numbers: Numbers, header: Header, logs: &[Log; NODES_MOST], i: usize) -> Numbers
+    requires { (i < nodes_most) × Numbered (has_bit header.faulty) (log_at logs.now) i numbers }
+    ensures { Numbered (has_bit header.faulty) (log_at logs.now) (i + 1) result }
 {
-    if has_bit(faulty, i) {
+    if header.is_faulty(i) {
         return numbers;
     }
-    let k = first_alike(faulty, logs, i);
-    let count = numbers.count;
-    let mut of = numbers.of;
-    if k < i {
-        of[i] = of[k];
-        return Numbers { count, of };
+    match first_alike(header, logs, i) {
+        Some(k) => numbers.of[i] = numbers.of[k],
+        None => {
+            numbers.of[i] = numbers.count as u8;
+            numbers.count += 1;
+        }
     }
-    of[i] = count as u8;
-    Numbers {
-        count: count + 1,
-        of,
-    }
+    numbers
 }
 
 // The numbers of the correct nodes' logs.
-pub(crate) fn number_all(n: usize, faulty: u16, logs: [HeldLog; NODES_MOST]) -> Numbers
-    requires { (n ≤ nodes_most) × AllFit logs }
-    ensures { Numbered (has_bit faulty) (λ j. log_in (held_at logs j)) n result }
+pub(crate) fn number_all(header: Header, logs: &[Log; NODES_MOST]) -> Numbers
+    requires { header.n ≤ nodes_most }
+    ensures { Numbered (has_bit header.faulty) (log_at logs.now) header.n result }
 {
     let mut numbers = Numbers {
         count: 0,
         of: [0u8; NODES_MOST],
     };
-    let mut i = 0;
-    while i < n {
-        let more = with_number(numbers, faulty, logs, i);
-        numbers = more;
-        i += 1;
+    for i in 0..header.n {
+        numbers = with_number(numbers, header, logs, i);
     }
     numbers
 }

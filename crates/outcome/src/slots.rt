@@ -7,44 +7,30 @@ ghost use Rattle.outcome.specs.Marks.{mark_with};
 ghost use Rattle.outcome.specs.Spoken.{slot_with, slots_with};
 ghost use Rattle.outcome.specs.Signing.{has_bit};
 
-use crate::has_bit;
+use header::Header;
 use rules::NODES_MOST;
 use signing::SLOT_SIZE;
 
-// A slot's bytes.
-#[derive(Clone, Copy)]
-struct Slot {
-    bytes: [u8; SLOT_SIZE],
-}
-
 // The slot of a node, by the number of its log.
-fn slot_of(faulty: bool, number: u8) -> Slot
-    ensures { result.bytes ≡ slot_with faulty (mark_with number) }
+fn slot_of(faulty: bool, number: u8) -> [u8; SLOT_SIZE]
+    ensures { result ≡ slot_with faulty (mark_with number) }
 {
-    let mut bytes = [0u8; SLOT_SIZE];
-    if faulty {
-        return Slot { bytes };
+    let mut slot = [0u8; SLOT_SIZE];
+    if !faulty {
+        slot[0] = 1;
+        slot[1] = number;
     }
-    bytes[0] = 1;
-    bytes[1] = number;
-    Slot { bytes }
+    slot
 }
 
 // The slots of n nodes, by the numbers of their logs; how many bytes they are.
-pub(crate) fn put_slots(
-    n: usize,
-    faulty: u16,
-    numbers: [u8; NODES_MOST],
-    output: &mut [u8],
-) -> usize
-    requires { (n ≤ nodes_most) × (slot_size * n ≤ length output.old) }
-    ensures { (result ≡ slot_size * n) × (output.new ≡ onto (slots_with (has_bit faulty) (λ j. mark_with (get_or numbers j 0)) n) output.old) }
+pub(crate) fn put_slots(header: Header, numbers: [u8; NODES_MOST], output: &mut [u8]) -> usize
+    requires { (header.n ≤ nodes_most) × (slot_size * header.n ≤ length output.old) }
+    ensures { (result ≡ slot_size * header.n) × (output.new ≡ onto (slots_with (has_bit header.faulty) (λ j. mark_with (get_or numbers j 0)) header.n) output.old) }
 {
-    let mut j = 0;
-    while j < n {
-        let slot = slot_of(has_bit(faulty, j), numbers[j]);
-        print::put_bytes(&mut output[SLOT_SIZE * j..], &slot.bytes);
-        j += 1;
+    for j in 0..header.n {
+        let slot = slot_of(header.is_faulty(j), numbers[j]);
+        output[SLOT_SIZE * j..SLOT_SIZE * (j + 1)].copy_from_slice(&slot);
     }
-    SLOT_SIZE * n
+    SLOT_SIZE * header.n
 }

@@ -5,13 +5,14 @@ use mathlib.Core.Path.{◌≡◌, refl, sym, ap, ap₂, ◌∙◌}
 use mathlib.Core.Logic.{inl, inr}
 use mathlib.Core.Bool.{Bool, true, false, not, ◌&&◌, ◌||◌, cond}
 use mathlib.Core.List.{List, [], ◌∷◌}
-use mathlib.Core.Option.{Option, none, some}
+use Rattle.std.proofs.Math.Option.{Option, none, some}
 use native.Mathlib.Nat.{le_refl, le_trans, le-suc}
 use native.Mathlib.Omega.{arith}
 use borrow.Author.Tests.{lt-ltb}
 use lib.Dec.{eqb, ltb}
 use lib.ListN.{length}
-use Rattle.laws.specs.Masks.{bit, every, mask_of}
+use Rattle.std.proofs.Math.Bool.{or-false}
+use Rattle.laws.specs.Masks.{bit, every}
 use Rattle.laws.specs.Members.{In, same, among, those}
 use Rattle.laws.proofs.Bits.{mask_tells}
 use Rattle.rules.specs.Sizes.{nodes_most}
@@ -36,7 +37,10 @@ use Rattle.agreement.specs.Rule.{has_sent, forged_for, breaks_rule}
 use Rattle.agreement.proofs.Follows.{over_votes, follows}
 use Rattle.agreement.proofs.SentBy.{sent_by_state}
 use Rattle.schedule.specs.Forms.{form_of}
-use Rattle.schedule.specs.declared.Form.TheVariants.{Good}
+use Rattle.header.specs.declared.Header.{Header}
+use Rattle.std.specs.Prelude.{Ok}
+use Rattle.contents.proofs.Faults.{mask_is}
+use Rattle.contents.proofs.Told.{held}
 use Rattle.contents.specs.Contents.{is_faulty}
 use Rattle.shown.specs.Shown.{kept_holds, has_sent as sent_held, forged_for as forged_held, forged as forged_shown, forged_among, breaks}
 use Rattle.standing.specs.Standing.{node_before, standing}
@@ -46,14 +50,10 @@ use Rattle.standing.proofs.Standings.{node_there, goes_on, nodes_sized, nodes_mo
 
 -- ---- batches, place by place
 
-or_none : (t : Bool) → (t || false) ≡ t
-or_none true = refl
-or_none false = refl
-
 kept_among : (bs : List Batch) (b : Batch) → Few bs → kept_holds (kept_as bs) (batch_of b) ≡ among b bs
 kept_among [] b few = refl
 kept_among (x ∷ []) b few = ap (λ (t : Bool). t || false) (same_batch_lem b x)
-kept_among (x ∷ y ∷ []) b few = ap₂ (λ (t u : Bool). t || u) (same_batch_lem b x) (same_batch_lem b y) ∙ ap (λ (t : Bool). same b x || t) (sym (or_none (same b y)))
+kept_among (x ∷ y ∷ []) b few = ap₂ (λ (t u : Bool). t || u) (same_batch_lem b x) (same_batch_lem b y) ∙ ap (λ (t : Bool). same b x || t) (sym (or-false (same b y)))
 kept_among (x ∷ y ∷ z ∷ bs) b few = absurd few
 
 -- ---- one node's state
@@ -90,55 +90,55 @@ heard_said n m v i = go (votes_of n m) refl i
 
 -- ---- the run of a schedule
 
-module _ (s : List ℕ) (n f : ℕ) (form : form_of s ≡ Good n f) (faulty : ℕ) (mask : faulty ≡ mask_of (is_faulty s) nodes_most) (here : Standing) (r : ℕ)
-    (stands : here ≡ standing (hall_of s n f) (suc r)) (late : suc r ≤ f + 1) where
+module _ (s : List ℕ) (h : Header) (form : form_of s ≡ Ok h) (here : Standing) (r : ℕ)
+    (stands : here ≡ standing (hall_of s h.n h.f) (suc r)) (late : suc r ≤ h.f + 1) where
   abbrev hall : Hall
-  hall = hall_of s n f
+  hall = hall_of s h.n h.f
 
   round : Round hall (suc r)
   round = record { first = omega arith; last = late }
 
   -- node c is in the state that its course says
-  module _ (c : ℕ) (l : c < n) (fine : is_faulty s c ≡ false) where
+  module _ (c : ℕ) (l : c < h.n) (fine : is_faulty s c ≡ false) where
     state_is : node_at here.nodes c ≡ node_after hall c r
     unfolding node_before
     state_is =
-        node_there hall here (suc r) stands c (omega (arith, l, nodes_most_lem s n f form))
-        ∙ simp (lt-ltb c n l, fine)
+        node_there hall here (suc r) stands c (omega (arith, l, nodes_most_lem s h form))
+        ∙ simp (lt-ltb c h.n l, fine)
 
-    sent_same : (p : ℕ) (b : Batch) → p < n → sent_held (node_at here.nodes c) p (batch_of b) ≡ has_sent hall (suc r) c p b
+    sent_same : (p : ℕ) (b : Batch) → p < h.n → sent_held (node_at here.nodes c) p (batch_of b) ≡ has_sent hall (suc r) c p b
     sent_same p b k =
-        let U = goes_on s n f form c (record { node = l; fine = fine }) in
-        let low : p < nodes_most = omega (arith, k, nodes_most_lem s n f form) in
+        let U = goes_on s h form c (record { node = l; fine = fine }) in
+        let low : p < nodes_most = omega (arith, k, nodes_most_lem s h form) in
         let its = follows hall c U r (le_trans (le-suc r) late) in
         let own = entries_of (hall.tray c) in
         ap (λ (x : Node). sent_held x p (batch_of b)) (state_is ∙ its)
-        ∙ state_sent n f c (suc r) own (kept (over_votes hall) r c) p low (kept_few (over_votes hall) r c p) b
+        ∙ state_sent h.n h.f c (suc r) own (kept (over_votes hall) r c) p low (kept_few (over_votes hall) r c p) b
         ∙ ap (λ (x : Node). (eqb p c && same b own) || among b (kept_for x p)) (sym its)
         ∙ sym (sent_by_state hall c U r round p k b)
 
-  forged_for_lem : (v : Vote) → v.primary < n → (c : ℕ) → c < n
-      → not (forged_held faulty (node_at here.nodes c) v.primary v.mask (batch_of v.batch) c) ≡ not (forged_for hall (suc r) v c)
+  forged_for_lem : (v : Vote) → v.primary < h.n → (c : ℕ) → c < h.n
+      → not (forged_held h.faulty (node_at here.nodes c) v.primary v.mask (batch_of v.batch) c) ≡ not (forged_for hall (suc r) v c)
   unfolding shows
   forged_for_lem v k c l = go (is_faulty s c) refl
     where
-      bit_is : eqb (bit faulty c) 1 ≡ is_faulty s c
-      bit_is = ap (λ (m : ℕ). eqb (bit m c) 1) mask ∙ mask_tells (is_faulty s) nodes_most c (omega (arith, l, nodes_most_lem s n f form))
+      bit_is : eqb (bit h.faulty c) 1 ≡ is_faulty s c
+      bit_is = ap (λ (m : ℕ). eqb (bit m c) 1) (mask_is s h (held s h form).read) ∙ mask_tells (is_faulty s) nodes_most c (omega (arith, l, nodes_most_lem s h form))
 
       go : (b : Bool) → is_faulty s c ≡ b
-          → not (forged_held faulty (node_at here.nodes c) v.primary v.mask (batch_of v.batch) c) ≡ not (forged_for hall (suc r) v c)
+          → not (forged_held h.faulty (node_at here.nodes c) v.primary v.mask (batch_of v.batch) c) ≡ not (forged_for hall (suc r) v c)
       go true e = simp (bit_is ∙ e, e)
       go false e = simp (bit_is ∙ e, e, sent_same c l e v.primary v.batch k)
 
-  by_states : (m : List ℕ) → breaks n faulty here.nodes m ≡ breaks_rule hall (suc r) m
+  by_states : (m : List ℕ) → breaks h.n h.faulty here.nodes m ≡ breaks_rule hall (suc r) m
   unfolding breaks forged_among forged_shown breaks_rule
   by_states m =
-      ap (λ (t : Bool). t && forged_among n faulty here.nodes (votes_in (votes_of n m))) (nodes_sized s n f form)
+      ap (λ (t : Bool). t && forged_among h.n h.faulty here.nodes (votes_in (votes_of h.n m))) (nodes_sized s h form)
       ∙ ap (λ (vs : List Vote). ltb 0 (length vs))
-      (those_same _ _ (votes_in (votes_of n m)) (λ v i. ap not (every_same _ _ n (forged_for_lem v (heard_said n m v i)))))
+      (those_same _ _ (votes_in (votes_of h.n m)) (λ v i. ap not (every_same _ _ h.n (forged_for_lem v (heard_said h.n m v i)))))
 
 -- before any round of the run
-pub rule_by_states : (s : List ℕ) (n f : ℕ) → form_of s ≡ Good n f → (faulty : ℕ) → faulty ≡ mask_of (is_faulty s) nodes_most → (here : Standing) (r : ℕ)
-    → here ≡ standing (hall_of s n f) r → 1 ≤ r → r ≤ f + 1 → (m : List ℕ) → breaks n faulty here.nodes m ≡ breaks_rule (hall_of s n f) r m
-rule_by_states s n f form faulty mask here zero stands first last m = absurd (omega arith)
-rule_by_states s n f form faulty mask here (suc r) stands first last m = by_states s n f form faulty mask here r stands last m
+pub rule_by_states : (s : List ℕ) (h : Header) → form_of s ≡ Ok h → (here : Standing) (r : ℕ) → here ≡ standing (hall_of s h.n h.f) r → 1 ≤ r → r ≤ h.f + 1
+    → (m : List ℕ) → breaks h.n h.faulty here.nodes m ≡ breaks_rule (hall_of s h.n h.f) r m
+rule_by_states s h form here zero stands first last m = absurd (omega arith)
+rule_by_states s h form here (suc r) stands first last m = by_states s h form here r stands last m

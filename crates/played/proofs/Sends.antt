@@ -1,6 +1,6 @@
 -- The sends of a schedule of good form, one after the other: rounds never go down, and there are few.
 use Prim.Native.Nat.{ℕ, zero, suc, ◌+◌, ◌*◌, ◌≤◌, ◌<◌}
-use mathlib.Core.Path.{◌≡◌, refl, ◌∙◌}
+use mathlib.Core.Path.{◌≡◌, refl, ap, ◌∙◌}
 use mathlib.Core.Bool.{true}
 use mathlib.Core.List.{List, [], ◌∷◌, map}
 use native.Mathlib.Omega.{arith}
@@ -8,15 +8,16 @@ use borrow.Author.Tests.{ltb-true}
 use lib.Dec.{ltb}
 use lib.ListN.{length, get_or, length-map, get_or-map}
 use Rattle.laws.specs.Order.{ascends_from, ascends}
-use Rattle.laws.proofs.Tests.{both, zero_one}
+use Rattle.laws.proofs.Tests.{both}
 use Rattle.laws.proofs.Order.{places_rise}
 use Rattle.laws.proofs.Members.{at_in}
 use Rattle.rules.specs.Sizes.{nodes_most}
 use Rattle.rules.proofs.Sizes.{sized_most}
 use Rattle.schedule.specs.Sends.{Send, sending_as, rank_of}
 use Rattle.schedule.specs.Forms.{form_of}
-use Rattle.schedule.specs.declared.Form.TheVariants.{Good}
-use Rattle.schedule.specs.declared.Sending.TheVariants.{Sent, NoSend}
+use Rattle.header.specs.declared.Header.{Header}
+use Rattle.schedule.specs.declared.Send.{Send as Numbered}
+use Rattle.std.proofs.Common.{Ok, Some, None}
 use Rattle.contents.specs.Contents.{sends_of, sending_at, message_for}
 use Rattle.contents.proofs.Good.{Fair, good_sizes, good_send, sends_ascend}
 use Rattle.contents.proofs.Found.{message_found}
@@ -31,21 +32,24 @@ send_at xs k = get_or xs k no_send
 
 -- ---- what the answer of `send_at` tells
 
-sending_at_lem : (xs : List Send) (k : ℕ) → k < length xs → sending_at xs k ≡ Sent (send_at xs k).round (send_at xs k).from (send_at xs k).to
+sending_at_lem : (xs : List Send) (k : ℕ) → k < length xs
+    → sending_at xs k ≡ Some (record { round = (send_at xs k).round; from = (send_at xs k).from; to = (send_at xs k).to })
 unfolding sending_at sending_as
 sending_at_lem [] k l = absurd (omega arith)
 sending_at_lem (x ∷ xs) zero l = refl
 sending_at_lem (x ∷ xs) (suc k) l = sending_at_lem xs k (omega arith)
 
-sent_is : {a b c x y z : ℕ} → Sent a b c ≡ Sent x y z → (a ≡ x) × (b ≡ y) × (c ≡ z)
-sent_is q = (cc, cc, cc)
+pub sent_numbers : (xs : List Send) (k : ℕ) (y : Numbered) → k < length xs → Some y ≡ sending_at xs k
+    → (y.round ≡ (send_at xs k).round) × (y.from ≡ (send_at xs k).from) × (y.to ≡ (send_at xs k).to)
+sent_numbers xs k y l e =
+    let x = send_at xs k in
+    let z : Numbered = record { round = x.round; from = x.from; to = x.to } in
+    let q : Some y ≡ Some z = e ∙ sending_at_lem xs k l in
+    let w : y ≡ z = cc in
+    (ap (λ (u : Numbered). u.round) w, ap (λ (u : Numbered). u.from) w, ap (λ (u : Numbered). u.to) w)
 
-pub sent_numbers : (xs : List Send) (k r i j : ℕ) → k < length xs → Sent r i j ≡ sending_at xs k
-    → (r ≡ (send_at xs k).round) × (i ≡ (send_at xs k).from) × (j ≡ (send_at xs k).to)
-sent_numbers xs k r i j l e = sent_is (e ∙ sending_at_lem xs k l)
-
-pub never_none : (xs : List Send) (k : ℕ) → k < length xs → NoSend ≡ sending_at xs k → ⊥
-never_none xs k l e = let q = e ∙ sending_at_lem xs k l in zero_one cc
+pub never_none : (xs : List Send) (k : ℕ) → k < length xs → None ≡ sending_at xs k → ⊥
+never_none xs k l e = let q = e ∙ sending_at_lem xs k l in cc
 
 -- ---- their order
 
@@ -62,15 +66,15 @@ place_least [] a k l = absurd (omega arith)
 place_least (x ∷ xs) a zero l = omega arith
 place_least (x ∷ xs) a (suc k) l = omega (arith, goes_up x xs a k (omega arith))
 
-module _ (s : List ℕ) (n f : ℕ) (form : form_of s ≡ Good n f) where
+module _ (s : List ℕ) (h : Header) (form : form_of s ≡ Ok h) where
   abbrev at : ℕ → Send
   at k = send_at (sends_of s) k
 
-  pub send_fits : (k : ℕ) → k < length (sends_of s) → Fair s n f (at k)
-  send_fits k l = good_send s n f form (at k) (at_in (sends_of s) k no_send l)
+  pub send_fits : (k : ℕ) → k < length (sends_of s) → Fair s h.n h.f (at k)
+  send_fits k l = good_send s h form (at k) (at_in (sends_of s) k no_send l)
 
   pub send_message : (k : ℕ) → k < length (sends_of s) → message_for s (at k).round (at k).from (at k).to ≡ (at k).message
-  send_message k l = message_found s n f form (at k) (at_in (sends_of s) k no_send l)
+  send_message k l = message_found s h form (at k) (at_in (sends_of s) k no_send l)
 
   abbrev ranks : List ℕ
   ranks = map rank_of (sends_of s)
@@ -81,7 +85,7 @@ module _ (s : List ℕ) (n f : ℕ) (form : form_of s ≡ Good n f) where
   within : (k : ℕ) → k < length (sends_of s) → ((at k).from < nodes_most) × ((at k).to < nodes_most)
   within k l =
       let x = send_fits k l in
-      let m = sized_most n (good_sizes s n f form).0 in
+      let m = sized_most h.n (good_sizes s h form).0 in
       (omega (arith, x.from_node), omega (arith, x.to_node))
 
   -- rounds never go down
@@ -89,12 +93,12 @@ module _ (s : List ℕ) (n f : ℕ) (form : form_of s ≡ Good n f) where
   send_rounds k l =
       let a = within k (omega arith) in
       let b = within (k + 1) l in
-      let up = places_rise ranks (sends_ascend s n f form) k (k + 1) (omega arith) (omega (arith, length-map (sends_of s) rank_of)) in
+      let up = places_rise ranks (sends_ascend s h form) k (k + 1) (omega arith) (omega (arith, length-map (sends_of s) rank_of)) in
       omega (arith, up, rank_at k, rank_at (k + 1), a.0, a.1, b.0, b.1)
 
   -- no send is further on than its rank
-  pub send_few : (k : ℕ) → k < length (sends_of s) → k < (f + 2) * (nodes_most * nodes_most)
+  pub send_few : (k : ℕ) → k < length (sends_of s) → k < (h.f + 2) * (nodes_most * nodes_most)
   send_few k l =
       let a = within k l in
-      let least = place_least ranks (sends_ascend s n f form) k (omega (arith, length-map (sends_of s) rank_of)) in
+      let least = place_least ranks (sends_ascend s h form) k (omega (arith, length-map (sends_of s) rank_of)) in
       omega (arith, least, rank_at k, (send_fits k l).round_most, a.0, a.1)

@@ -11,7 +11,7 @@ use lib.Seq.{append_snoc, drop_at, take-append_seam}
 use Rattle.laws.proofs.Tests.{both}
 use Rattle.text.specs.Numbers.{decimal, digit_of, digits_below, entry_as, entry_in, field_of, half_most, number_in, value_from, word_most}
 use Rattle.text.specs.Places.{dot, past, place_of}
-use Rattle.text.specs.declared.Number.TheVariants.{Value}
+use Rattle.std.specs.Prelude.{Some}
 use Rattle.text.proofs.Digits.{digit_under}
 use Rattle.print.specs.Texts.{decimal_of, digits_in, entry_text, low_text}
 
@@ -83,7 +83,7 @@ lead_case : (ds : List ℕ) (t : Bool) → leb 2 (length ds) ≡ t → (2 ≤ le
 lead_case ds true e f = let q : 48 < get_or ds 0 0 = f (leb-true _ _ e) in let n : get_or ds 0 0 ≡ 48 → ⊥ = λ z. omega arith in simp (ne_eqb _ _ n)
 lead_case ds false e f = refl
 
-pub number_back : (most v : ℕ) → v ≤ most → number_in most (decimal_of v) ≡ Value v
+pub number_back : (most v : ℕ) → v ≤ most → number_in most (decimal_of v) ≡ Some v
 unfolding number_in decimal decimal_of
 number_back most v h =
     let g = fine_in (suc v) v (omega arith) in
@@ -117,7 +117,7 @@ module _ (v most : ℕ) (h : v ≤ most) (t : List ℕ) where
   place_is : place_of dot text ≡ length (decimal_of v)
   place_is = ap (place_of dot) text_is ∙ place_dot (decimal_of v) t (decimal_digits v)
 
-  front_back : field_of dot most ((decimal_of v ++ (dot ∷ [])) ++ t) ≡ Value v
+  front_back : field_of dot most ((decimal_of v ++ (dot ∷ [])) ++ t) ≡ Some v
   unfolding text field_of
   front_back =
       let l : place_of dot text < length text = omega (arith, place_is, ap length text_is, length-append (decimal_of v) (dot ∷ t)) in
@@ -130,16 +130,16 @@ module _ (v most : ℕ) (h : v ≤ most) (t : List ℕ) where
       ap (λ (k : ℕ). drop (k + 1) text) place_is
       ∙ drop_at (decimal_of v ++ (dot ∷ [])) t (length (decimal_of v) + 1) (length-append (decimal_of v) (dot ∷ []))
 
-pub entry_back : (x : ℕ) → x < 2 ^ 64 → entry_in (entry_text x) ≡ Value x
+pub entry_back : (x : ℕ) → x < 2 ^ 64 → entry_in (entry_text x) ≡ Some x
 unfolding entry_in entry_as
 entry_back x h =
     let a = front_back (x / 2 ^ 48) half_most (omega arith) (low_text x) in
     let r = rest_back (x / 2 ^ 48) half_most (omega arith) (low_text x) in
-    let b : field_of dot half_most (past dot (entry_text x)) ≡ Value (x / 2 ^ 32 % 2 ^ 16) =
+    let b : field_of dot half_most (past dot (entry_text x)) ≡ Some (x / 2 ^ 32 % 2 ^ 16) =
     ap (field_of dot half_most) r ∙ front_back (x / 2 ^ 32 % 2 ^ 16) half_most (omega arith) (decimal_of (x % 2 ^ 32)) in
-    let d : number_in word_most (past dot (past dot (entry_text x))) ≡ Value (x % 2 ^ 32) =
+    let d : number_in word_most (past dot (past dot (entry_text x))) ≡ Some (x % 2 ^ 32) =
     ap (λ (t : List ℕ). number_in word_most (past dot t)) r
     ∙ ap (number_in word_most) (rest_back (x / 2 ^ 32 % 2 ^ 16) half_most (omega arith) (decimal_of (x % 2 ^ 32)))
     ∙ number_back word_most (x % 2 ^ 32) (omega arith) in
     let sum : x / 2 ^ 48 * 2 ^ 48 + x / 2 ^ 32 % 2 ^ 16 * 2 ^ 32 + x % 2 ^ 32 ≡ x = omega arith in
-    simp (a, b, d) (ap Value sum)
+    simp (a, b, d) (ap Some sum)

@@ -3,7 +3,7 @@ use Prim.Native.Nat.{◌%◌, ◌*◌, ◌+◌, ◌/◌, ◌<◌, ◌^◌, ◌�
 use mathlib.Core.Bool.{Bool, false, true}
 use mathlib.Core.List.{List, [], ◌++◌, ◌∷◌}
 use mathlib.Core.Path.{◌≡◌, refl}
-use native.Mathlib.Nat.{pow-suc}
+use native.Mathlib.Nat.{one-le-pow, pow-suc}
 use native.Mathlib.Omega.{arith}
 use borrow.Author.Tests.{ltb-false, ltb-true}
 use lib.Dec.{ltb}
@@ -25,6 +25,26 @@ bound_case k v false e h ih =
 pub decimal_bound : (k v : ℕ) → v < 10 ^ suc k → length (decimal_of v) ≤ suc k
 decimal_bound zero v h = omega (arith, small_length v (omega arith))
 decimal_bound (suc k) v h = bound_case k v (ltb v 10) refl h (λ z. decimal_bound k (v / 10) z)
+
+least_case : (k v : ℕ) (t : Bool) → ltb v 10 ≡ t → 10 ^ suc k ≤ v → (10 ^ k ≤ v / 10 → suc k ≤ length (decimal_of (v / 10)))
+    → suc (suc k) ≤ length (decimal_of v)
+least_case k v true e h ih = absurd (omega (arith, pow-suc 10 k, ltb-true _ _ e, one-le-pow k 10 (omega arith)))
+least_case k v false e h ih =
+    let l : 10 ≤ v = ltb-false _ _ e in
+    omega (arith, ih (omega (arith, pow-suc 10 k)), step_length v l)
+
+one_digit : (v : ℕ) (t : Bool) → ltb v 10 ≡ t → 1 ≤ length (decimal_of v)
+one_digit v true e = omega (arith, small_length v (ltb-true _ _ e))
+one_digit v false e = omega (arith, step_length v (ltb-false _ _ e))
+
+-- and one that is no less than it has more
+decimal_least : (k v : ℕ) → 10 ^ k ≤ v → suc k ≤ length (decimal_of v)
+decimal_least zero v h = one_digit v (ltb v 10) refl
+decimal_least (suc k) v h = least_case k v (ltb v 10) refl h (λ z. decimal_least k (v / 10) z)
+
+-- the length of a number is one more than its logarithm
+pub decimal_length : (k v : ℕ) → 10 ^ k ≤ v → v < 10 * 10 ^ k → length (decimal_of v) ≡ k + 1
+decimal_length k v low high = let p : 10 ^ suc k ≡ 10 ^ k * 10 = pow-suc 10 k in omega (arith, decimal_least k v low, decimal_bound k v (omega (arith, p)))
 
 pub entry_length : (x : ℕ) → length (entry_text x) ≡ length (decimal_of (x / 2 ^ 48)) + 1 + (length (decimal_of (x / 2 ^ 32 % 2 ^ 16)) + 1 + length
     (decimal_of (x % 2 ^ 32)))

@@ -1,5 +1,5 @@
 -- Text over the front of an output: one byte more, one part more, one item more.
-use Prim.Native.Nat.{◌%◌, ◌+◌, ◌-◌, ◌/◌, ◌<◌, ◌≤◌, suc, zero, ℕ}
+use Prim.Native.Nat.{◌%◌, ◌+◌, ◌-◌, ◌/◌, ◌<◌, ◌^◌, ◌≤◌, suc, zero, ℕ}
 use mathlib.Core.Bool.{Bool, cond, false, true}
 use mathlib.Core.List.{List, [], ◌++◌, ◌∷◌, append_assoc, append-nil}
 use mathlib.Core.Path.{◌∙◌, ◌≡◌, ap, refl, sym}
@@ -9,7 +9,9 @@ use borrow.Author.Tests.{le-leb, le-ltb, leb-false, leb-true, lt-leb, lt-ltb, lt
 use borrow.Rule.Slice.PartMut.{put_mid}
 use lib.Dec.{leb, ltb}
 use lib.ListN.{drop, get_or, length, length-append, length-drop, set, take, take-append-drop}
-use lib.Seq.{append_snoc, drop-cons, length-take-le, set_at, take_all, take-suc}
+use lib.Seq.{append_snoc, drop-cons, set_at, take-suc}
+use Rattle.std.specs.Fmt.{decimal}
+use Rattle.std.proofs.lemmas.Fmt.{decimal_by_steps}
 use Rattle.laws.specs.Parts.{onto}
 use Rattle.laws.proofs.Lent.{comes_back, onto_length, rest_of}
 use Rattle.text.specs.Places.{comma}
@@ -41,14 +43,17 @@ unfolding decimal_of digits_in
 decimal_step v h =
     simp (le-ltb _ _ h) (ap (λ (x : List ℕ). x ++ ((48 + v % 10) ∷ [])) (fuel v (suc (v / 10)) (v / 10) (omega arith) (omega arith)))
 
+-- they are what the library writes of v
+pub library_digits : (v : ℕ) → v < 2 ^ 64 → decimal v ≡ decimal_of v
+library_digits =
+    decimal_by_steps (λ n ds. ds ≡ decimal_of n) (λ n h. sym (decimal_small n h))
+    (λ n ds h e. ap (λ (x : List ℕ). x ++ ((48 + n % 10) ∷ [])) e ∙ sym (decimal_step n h))
+
 pub small_length : (v : ℕ) → v < 10 → length (decimal_of v) ≡ 1
 small_length v h = ap length (decimal_small v h)
 
 pub step_length : (v : ℕ) → 10 ≤ v → length (decimal_of v) ≡ length (decimal_of (v / 10)) + 1
 step_length v h = ap length (decimal_step v h) ∙ length-append (decimal_of (v / 10)) ((48 + v % 10) ∷ [])
-
-pub step_room : (v n : ℕ) → 10 ≤ v → length (decimal_of v) ≤ n → length (decimal_of (v / 10) ++ ((48 + v % 10) ∷ [])) ≤ n
-step_room v n h l = omega (arith, l, ap length (decimal_step v h))
 
 -- ---- over the front
 
@@ -63,10 +68,6 @@ onto_byte w out last k b e f h =
     ∙ sym (append_snoc w b (drop (suc (length w)) out))
     ∙ ap (λ (j : ℕ). w ++ (b ∷ []) ++ drop j out) n
 
--- the first byte
-pub onto_first : (out : List ℕ) (b : ℕ) → 1 ≤ length out → set out 0 b ≡ onto (b ∷ []) out
-onto_first out b h = onto_byte [] out out 0 b refl refl h
-
 -- w is written over the front of out: so many bytes
 abbrev pub Over : (w out : List ℕ) (k : ℕ) (last : List ℕ) → Type 0
 Over w out k last = (k ≡ length w) × (last ≡ onto w out)
@@ -75,9 +76,6 @@ Over w out k last = (k ≡ length w) × (last ≡ onto w out)
 module _ (w out : List ℕ) (b : ℕ) {last : List ℕ} {k : ℕ} (h : length (w ++ (b ∷ [])) ≤ length out) (p : Over w out k last) where
   room_behind : length w + 1 ≤ length out
   room_behind = omega (arith, h, length-append w (b ∷ []))
-
-  pub byte_room : k < length last
-  byte_room = omega (arith, p.0, ap length p.1, onto_length w out (omega (arith, room_behind)), room_behind)
 
   pub byte_over : Over (w ++ (b ∷ [])) out (k + 1) (set last k b)
   byte_over = (omega (arith, p.0, length-append w (b ∷ [])), onto_byte w out last k b p.0 p.1 room_behind)
@@ -90,9 +88,6 @@ module _ (v w out : List ℕ) {last : List ℕ} {r : ℕ} (h : length (v ++ w) �
   as_long : length last ≡ length out
   as_long = ap length p.1 ∙ onto_length v out (left_fits v w (length out) h)
 
-  pub part_start : r ≤ length last
-  part_start = omega (arith, h, p.0, as_long, length-append v w)
-
   pub part_room : length w ≤ length (take (length last - r) (drop r last))
   part_room = rw (rest_of last r, length-drop r last) (omega (arith, h, p.0, as_long, length-append v w))
 
@@ -100,9 +95,6 @@ module _ (v w out : List ℕ) {last : List ℕ} {r : ℕ} (h : length (v ++ w) �
   module _ {q : ℕ} {back : List ℕ} (g : Over w (take (length last - r) (drop r last)) q back) where
     both_length : r + q ≡ length (v ++ w)
     both_length = omega (arith, p.0, g.0, length-append v w)
-
-    pub both_fit : r + q ≤ length out
-    both_fit = omega (arith, h, both_length)
 
     both_onto : put_mid r (length last - r) last back ≡ onto (v ++ w) out
     both_onto =
@@ -114,21 +106,6 @@ module _ (v w out : List ℕ) {last : List ℕ} {r : ℕ} (h : length (v ++ w) �
     pub both_over : Over (v ++ w) out (r + q) (put_mid r (length last - r) last back)
     both_over = (both_length, both_onto)
 
-    pub both_kept : length (put_mid r (length last - r) last back) ≡ length out
-    both_kept = ap length both_onto ∙ onto_length (v ++ w) out h
-
--- ---- bytes that are copied
-
-pub copy_turn : (s out last : List ℕ) (i : ℕ) → i < length s → length s ≤ length out → last ≡ onto (take i s) out
-    → set last i (get_or s i 0) ≡ onto (take (i + 1) s) out
-copy_turn s out last i h l e =
-    let q : length (take i s) ≡ i = length-take-le i s (omega arith) in
-    onto_byte (take i s) out last i (get_or s i 0) (sym q) e (omega (arith, q))
-    ∙ ap (λ (w : List ℕ). onto w out) (sym (take-suc s i 0 h) ∙ ap (λ (j : ℕ). take j s) (sym (add-one i)))
-
-pub copy_done : (s out last : List ℕ) (i : ℕ) → length s ≤ i → last ≡ onto (take i s) out → last ≡ onto s out
-copy_done s out last i h e = e ∙ ap (λ (w : List ℕ). onto w out) (take_all i s h)
-
 -- ---- lists
 
 pub list_none : (kind : Items) (xs : List ℕ) → length xs ≡ 0 → list_text kind xs ≡ []
@@ -136,11 +113,9 @@ unfolding list_text
 list_none kind [] h = refl
 list_none kind (x ∷ xs) h = absurd (omega arith)
 
-pub list_some : (kind : Items) (xs : List ℕ) → (length xs ≡ 0 → ⊥)
-    → list_text kind xs ≡ item_text kind (get_or xs 0 0) ++ more_text kind (take (length xs - 1) (drop 1 xs))
+pub list_some : (kind : Items) (x : ℕ) (xs : List ℕ) {all : List ℕ} → all ≡ x ∷ xs → list_text kind all ≡ item_text kind x ++ more_text kind xs
 unfolding list_text
-list_some kind [] h = absurd (h refl)
-list_some kind (x ∷ xs) h = ap (λ (t : List ℕ). item_text kind x ++ more_text kind t) (sym (rest_of (x ∷ xs) 1))
+list_some kind x xs e = ap (list_text kind) e
 
 more_append : (kind : Items) (xs ys : List ℕ) → more_text kind (xs ++ ys) ≡ more_text kind xs ++ more_text kind ys
 unfolding more_text
@@ -156,9 +131,6 @@ unfolding more_text
 more_turn kind xs i l =
     ap (λ (j : ℕ). more_text kind (take j xs)) (add-one i) ∙ ap (more_text kind) (take-suc xs i 0 l) ∙ more_append kind (take i xs) (get_or xs i 0 ∷ [])
     ∙ ap (λ (t : List ℕ). more_text kind (take i xs) ++ t) (append-nil (comma ∷ item_text kind (get_or xs i 0)))
-
-pub more_whole : (kind : Items) (xs : List ℕ) (i : ℕ) → length xs ≤ i → more_text kind (take i xs) ≡ more_text kind xs
-more_whole kind xs i h = ap (more_text kind) (take_all i xs h)
 
 -- the first items are no longer than all
 pub more_part : (kind : Items) (xs : List ℕ) (i : ℕ) → length (more_text kind (take i xs)) ≤ length (more_text kind xs)
@@ -183,29 +155,18 @@ more_length kind xs i l = omega (
   length-append (more_text kind (take i xs)) (comma ∷ item_text kind (get_or xs i 0)),
 )
 
-module _ (kind : Items) (xs : List ℕ) where
-  pub list_length : (length xs ≡ 0 → ⊥) → length (list_text kind xs) ≡ length (item_text kind (get_or xs 0 0)) + length (more_text kind (take
-      (length xs - 1) (drop 1 xs)))
-  list_length h = ap length (list_some kind xs h) ∙ length-append (item_text kind (get_or xs 0 0)) (more_text kind (take (length xs - 1) (drop 1 xs)))
+module _ (kind : Items) (x : ℕ) (xs : List ℕ) {all : List ℕ} (e : all ≡ x ∷ xs) where
+  pub list_length : length (list_text kind all) ≡ length (item_text kind x) + length (more_text kind xs)
+  list_length = ap length (list_some kind x xs e) ∙ length-append (item_text kind x) (more_text kind xs)
 
-  pub list_room : (n : ℕ) → (length xs ≡ 0 → ⊥) → length (list_text kind xs) ≤ n
-      → length (item_text kind (get_or xs 0 0) ++ more_text kind (take (length xs - 1) (drop 1 xs))) ≤ n
-  list_room n h l = omega (arith, ap length (list_some kind xs h))
+  pub list_room : (n : ℕ) → length (list_text kind all) ≤ n → length (item_text kind x ++ more_text kind xs) ≤ n
+  list_room n l = omega (arith, ap length (list_some kind x xs e))
 
   -- whether all fits is whether the others fit behind the first
-  pub fits_rest : (room first : ℕ) {t : Bool} → (length xs ≡ 0 → ⊥) → first ≡ length (item_text kind (get_or xs 0 0)) → first ≤ room
-      → t ≡ leb (length (more_text kind (take (length xs - 1) (drop 1 xs)))) (room - first) → t ≡ leb (length (list_text kind xs)) room
-  fits_rest room first {t} h e l q = q ∙ go (leb (length (more_text kind (take (length xs - 1) (drop 1 xs)))) (room - first)) refl
+  pub fits_rest : (room first : ℕ) {t : Bool} → first ≡ length (item_text kind x) → first ≤ room → t ≡ leb (length (more_text kind xs)) (room - first)
+      → t ≡ leb (length (list_text kind all)) room
+  fits_rest room first {t} h l q = q ∙ go (leb (length (more_text kind xs)) (room - first)) refl
     where
-      go : (b : Bool) → leb (length (more_text kind (take (length xs - 1) (drop 1 xs)))) (room - first) ≡ b
-          → leb (length (more_text kind (take (length xs - 1) (drop 1 xs)))) (room - first) ≡ leb (length (list_text kind xs)) room
-      go true b = b ∙ sym (le-leb (length (list_text kind xs)) room (omega (
-        arith,
-        leb-true (length (more_text kind (take (length xs - 1) (drop 1 xs)))) (room - first) b,
-        list_length h,
-      )))
-      go false b = b ∙ sym (lt-leb (length (list_text kind xs)) room (omega (
-        arith,
-        leb-false (length (more_text kind (take (length xs - 1) (drop 1 xs)))) (room - first) b,
-        list_length h,
-      )))
+      go : (b : Bool) → leb (length (more_text kind xs)) (room - first) ≡ b → leb (length (more_text kind xs)) (room - first) ≡ leb (length (list_text kind all)) room
+      go true b = b ∙ sym (le-leb (length (list_text kind all)) room (omega (arith, leb-true (length (more_text kind xs)) (room - first) b, list_length)))
+      go false b = b ∙ sym (lt-leb (length (list_text kind all)) room (omega (arith, leb-false (length (more_text kind xs)) (room - first) b, list_length)))

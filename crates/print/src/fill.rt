@@ -1,10 +1,11 @@
-// Writing over the front of an output that has room for the whole text.
+// Writing over the front of an output that has room for the whole text. By parts and no Display: a text is written whole or not at all, into lent memory, and there is no heap.
 ghost use Rattle.std.specs.Prelude.{◌≡◌, [], ◌++◌, ◌∷◌, ◌≤◌, length};
 ghost use Rattle.laws.specs.Parts.{onto};
 ghost use Rattle.text.specs.Places.{comma, lf};
 ghost use Rattle.print.specs.Texts.{decimal_of, entry_text, item_text, line_text, list_text, low_text, more_text};
 
 use crate::Items;
+use itoa::Buffer;
 use text::{COMMA, DOT, LF};
 
 // The bytes as they are.
@@ -12,12 +13,8 @@ pub(crate) fn bytes(output: &mut [u8], s: &[u8]) -> usize
     requires { length s.now ≤ length output.old }
     ensures { (result ≡ length s.now) × (output.new ≡ onto s.now output.old) }
 {
-    let mut i: usize = 0;
-    while i < s.len() {
-        output[i] = s[i];
-        i += 1;
-    }
-    i
+    output[..s.len()].copy_from_slice(s);
+    s.len()
 }
 
 // A number, and a byte after it.
@@ -35,13 +32,7 @@ fn number(output: &mut [u8], v: u64) -> usize
     requires { length (decimal_of v) ≤ length output.old }
     ensures { (result ≡ length (decimal_of v)) × (output.new ≡ onto (decimal_of v) output.old) }
 {
-    if v < 10 {
-        output[0] = (48 + v) as u8;
-        return 1;
-    }
-    let k = number(output, v / 10);
-    output[k] = (48 + v % 10) as u8;
-    k + 1
+    bytes(output, Buffer::new().format(v).as_bytes())
 }
 
 // interval.watthours
@@ -90,12 +81,9 @@ fn all_more(output: &mut [u8], kind: Items, xs: &[u64]) -> usize
     requires { length (more_text kind xs.now) ≤ length output.old }
     ensures { (result ≡ length (more_text kind xs.now)) × (output.new ≡ onto (more_text kind xs.now) output.old) }
 {
-    let mut at: usize = 0;
-    let mut i: usize = 0;
-    while i < xs.len() {
-        let k = more(&mut output[at..], kind, xs[i]);
-        at += k;
-        i += 1;
+    let mut at = 0;
+    for x in xs {
+        at += more(&mut output[at..], kind, *x);
     }
     at
 }
@@ -105,11 +93,11 @@ fn list(output: &mut [u8], kind: Items, xs: &[u64]) -> usize
     requires { length (list_text kind xs.now) ≤ length output.old }
     ensures { (result ≡ length (list_text kind xs.now)) × (output.new ≡ onto (list_text kind xs.now) output.old) }
 {
-    if xs.len() == 0 {
+    let Some((first, others)) = xs.split_first() else {
         return 0;
-    }
-    let a = item(output, kind, xs[0]);
-    let b = all_more(&mut output[a..], kind, &xs[1..]);
+    };
+    let a = item(output, kind, *first);
+    let b = all_more(&mut output[a..], kind, others);
     a + b
 }
 

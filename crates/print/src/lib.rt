@@ -7,7 +7,8 @@ ghost use Rattle.print.specs.Texts.{decimal_of, line_text, list_text};
 mod fill;
 mod sizes;
 
-// What a list's items are: node numbers, or entries.
+// What a list's items are: node numbers, or entries. An enum, and no trait with two types: items of both kinds are `u64`, so the type would stand for the
+// kind alone, and each function that is handed `kind` would name it all the same.
 #[derive(Clone, Copy)]
 pub enum Items {
     Nodes,

@@ -8,13 +8,10 @@ use crate::Items;
 pub(crate) fn number_size(v: u64) -> usize
     ensures { (result ≡ length (decimal_of v)) × (result ≤ 20) }
 {
-    let mut left = v;
-    let mut size: usize = 1;
-    while 10 <= left {
-        left = left / 10;
-        size += 1;
+    match v.checked_ilog10() {
+        Some(power) => power as usize + 1,
+        None => 1,
     }
-    size
 }
 
 // The bytes of an item.
@@ -36,14 +33,12 @@ fn more_fits(kind: Items, xs: &[u64], room: usize) -> bool
     ensures { result ≡ leb (length (more_text kind xs.now)) room }
 {
     let mut left = room;
-    let mut i = 0;
-    while i < xs.len() {
-        let size = 1 + item_size(kind, xs[i]);
+    for x in xs {
+        let size = 1 + item_size(kind, *x);
         if left < size {
             return false;
         }
         left -= size;
-        i += 1;
     }
     true
 }
@@ -52,12 +47,9 @@ fn more_fits(kind: Items, xs: &[u64], room: usize) -> bool
 pub(crate) fn list_fits(kind: Items, xs: &[u64], room: usize) -> bool
     ensures { result ≡ leb (length (list_text kind xs.now)) room }
 {
-    if xs.len() == 0 {
+    let Some((first, others)) = xs.split_first() else {
         return true;
-    }
-    let first = item_size(kind, xs[0]);
-    if room < first {
-        return false;
-    }
-    more_fits(kind, &xs[1..], room - first)
+    };
+    let size = item_size(kind, *first);
+    size <= room && more_fits(kind, others, room - size)
 }

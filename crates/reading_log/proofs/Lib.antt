@@ -1,3 +1,3 @@
 pub mod Bars
-pub mod Answers
 pub mod Determined
+pub mod Answers

@@ -26,7 +26,8 @@ use Rattle.agreement.proofs.Follows.{over_votes, follows, stays_sound}
 use Rattle.agreement.proofs.Granting.{unhindered, granted}
 use Rattle.agreement.proofs.Demand3.{agreed}
 use Rattle.schedule.specs.Forms.{form_of}
-use Rattle.schedule.specs.declared.Form.TheVariants.{Good}
+use Rattle.std.specs.Prelude.{Ok}
+use Rattle.header.specs.declared.Header.{Header}
 use Rattle.contents.specs.Contents.{is_faulty, entries_of_tray}
 use Rattle.standing.specs.Run.{hall_of}
 use Rattle.played.specs.Playing.{breach}
@@ -49,12 +50,18 @@ listed_count t (suc n) = length-append (nodes_that t n) (cond (t n) (n ∷ []) [
     one true e = omega arith
     one false e = omega arith
 
-module _ (s : List ℕ) (n f : ℕ) (good : form_of s ≡ Good n f) (kept : breach s n f ≡ 0) where
+module _ (s : List ℕ) (h : Header) (good : form_of s ≡ Ok h) (kept : breach s h.n h.f ≡ 0) where
+  abbrev n : ℕ
+  n = h.n
+
+  abbrev f : ℕ
+  f = h.f
+
   abbrev hall : Hall
   hall = hall_of s n f
 
   abbrev G : Granted hall
-  G = run_granted s n f good kept
+  G = run_granted s h good kept
 
   -- node i when its rounds are over
   abbrev pub last : ℕ → Node
@@ -118,4 +125,4 @@ module _ (s : List ℕ) (n f : ℕ) (good : form_of s ≡ Good n f) (kept : brea
       )
 
 pub rehearsals_agree_lem : RehearsalsAgree
-rehearsals_agree_lem s n f good kept = one_log s n f good kept
+rehearsals_agree_lem s h good kept = one_log s h good kept

@@ -16,7 +16,8 @@ use Rattle.agreement.specs.Rule.{breaks_rule}
 use Rattle.agreement.proofs.Carried.{silence_keeps, carried_granted}
 use Rattle.schedule.specs.Sends.{Send}
 use Rattle.schedule.specs.Forms.{form_of}
-use Rattle.schedule.specs.declared.Form.TheVariants.{Good}
+use Rattle.std.specs.Prelude.{Ok}
+use Rattle.header.specs.declared.Header.{Header}
 use Rattle.contents.specs.Contents.{send_line, is_faulty, entries_of_tray, sends_of, message_for, message_in, numbered}
 use Rattle.contents.proofs.Good.{faulty_count}
 use Rattle.standing.specs.Run.{hall_of}
@@ -42,13 +43,13 @@ message_keeps hall k (x ∷ xs) l h r j i =
     go false e true q rest = rw q (subst (λ (y : ℕ). breaks_rule hall y x.message ≡ false) (numbers_are r j i x.round x.from x.to q) e)
     go false e false q rest = rw q (rest (rw e at h))
 
-module _ (s : List ℕ) (n f : ℕ) (good : form_of s ≡ Good n f) where
+module _ (s : List ℕ) (h : Header) (good : form_of s ≡ Ok h) where
   empty_log : is_log [] ≡ true
   unfolding is_log fits
   empty_log = refl
 
-  pub run_granted : breach s n f ≡ 0 → Granted (hall_of s n f)
+  pub run_granted : breach s h.n h.f ≡ 0 → Granted (hall_of s h.n h.f)
   run_granted kept =
-      carried_granted n f (is_faulty s) (λ i. tray_of (entries_of_tray s i)) (λ r j i. message_for s r j i) []
-      (given s n f good) (faulty_count s n f good) empty_log
-      (λ i j r ci fj b. message_keeps (hall_of s n f) (send_line s 0) (sends_of s) (omega arith) kept r j i)
+      carried_granted h.n h.f (is_faulty s) (λ i. tray_of (entries_of_tray s i)) (λ r j i. message_for s r j i) []
+      (given s h good) (faulty_count s h good) empty_log
+      (λ i j r ci fj b. message_keeps (hall_of s h.n h.f) (send_line s 0) (sends_of s) (omega arith) kept r j i)

@@ -11,7 +11,8 @@ use Rattle.signing.specs.Slots.{slot_of}
 use Rattle.agreement.specs.Hall.{Hall}
 use Rattle.agreement.specs.Granted.{Correct, Counting, Signing}
 use Rattle.schedule.specs.Forms.{form_of}
-use Rattle.schedule.specs.declared.Form.TheVariants.{Good}
+use Rattle.std.specs.Prelude.{Ok}
+use Rattle.header.specs.declared.Header.{Header}
 use Rattle.contents.specs.Contents.{is_faulty}
 use Rattle.standing.specs.Run.{hall_of}
 use Rattle.played.specs.Playing.{breach}
@@ -25,7 +26,13 @@ use Rattle.rehearsal.proofs.Agreed.{printed, makes}
 some_is : {a b : Mark} → some a ≡ some b → b ≡ a
 some_is e = cc
 
-module _ (s : List ℕ) (n f : ℕ) (good : form_of s ≡ Good n f) (kept : breach s n f ≡ 0) where
+module _ (s : List ℕ) (h : Header) (good : form_of s ≡ Ok h) (kept : breach s h.n h.f ≡ 0) where
+  abbrev n : ℕ
+  n = h.n
+
+  abbrev f : ℕ
+  f = h.f
+
   abbrev hall : Hall
   hall = hall_of s n f
 
@@ -39,15 +46,15 @@ module _ (s : List ℕ) (n f : ℕ) (good : form_of s ≡ Good n f) (kept : brea
   signing = record {
     cut = λ i ci. eq-eqb _ _ (slots_size (is_faulty s) (marks s n f) (λ k. mark_size_lem (number_at (is_faulty s) (printed_log s n f) n k)) n);
     alike = λ i j ci cj mi mj e.
-        ap (λ (log : List ℕ). mark_with (place_in log (distinct (is_faulty s) (printed_log s n f) n))) (printed s n f good kept i ci ∙ e ∙ sym (printed s n f good kept j cj));
+        ap (λ (log : List ℕ). mark_with (place_in log (distinct (is_faulty s) (printed_log s n f) n))) (printed s h good kept i ci ∙ e ∙ sym (printed s h good kept j cj));
     reaches = λ i j ci cj ne m. says j cj;
   }
 
   counting : (k : ℕ) → Correct hall k → Counting hall (marks s n f) k (marks s n f k) (slots s n f)
   counting k ck = record {
-    signs = λ j x cj ne e. record { makes = makes s n f good kept j cj; its = some_is (sym (says j cj) ∙ e) };
-    counts = λ c. record { makes = makes s n f good kept k c; its = λ i. marks s n f k };
+    signs = λ j x cj ne e. record { makes = makes s h good kept j cj; its = some_is (sym (says j cj) ∙ e) };
+    counts = λ c. record { makes = makes s h good kept k c; its = λ i. marks s n f k };
   }
 
 pub rehearsals_granted : RehearsalsGranted
-rehearsals_granted s n f good kept = record { run = run_granted s n f good kept; signing = signing s n f good kept; counting = counting s n f good kept }
+rehearsals_granted s h good kept = record { run = run_granted s h good kept; signing = signing s h good kept; counting = counting s h good kept }

@@ -1,6 +1,6 @@
 -- Of every schedule that is not bad, all printed logs are the same log, at most 4,096 entries that ascend strictly, with every entry of every correct node's tray,
 -- and every printed `signers` is exactly the correct nodes, f + 1 or more.
-use Rattle.std.specs.Prelude.{ℕ, ◌+◌, ◌≤◌, ◌<◌, ◌≡◌, true, false, not, cond, List, [], ◌++◌, length}
+use Rattle.std.specs.Prelude.{ℕ, ◌+◌, ◌≤◌, ◌<◌, ◌≡◌, true, false, not, cond, List, [], ◌++◌, length, Ok}
 use Rattle.laws.specs.Members.{In}
 use Rattle.rules.specs.Sizes.{is_log}
 use Rattle.rules.specs.Step.{gather}
@@ -8,7 +8,7 @@ use Rattle.rules.specs.Signers.{Mark}
 use Rattle.agreement.specs.Hall.{node_after}
 use Rattle.agreement.specs.Granted.{Correct, Granted, Counting, Signing}
 use Rattle.schedule.specs.Forms.{form_of}
-use Rattle.schedule.specs.declared.Form.TheVariants.{Good}
+use Rattle.header.specs.declared.Header.{Header}
 use Rattle.contents.specs.Contents.{is_faulty, entries_of_tray}
 use Rattle.standing.specs.Run.{hall_of}
 use Rattle.played.specs.Playing.{breach}
@@ -34,7 +34,7 @@ pub record OneLog (s : List ℕ) (n f : ℕ) (log : List ℕ) : Type 0 where
   pub enough : f + 1 ≤ length (correct_nodes s n)
 
 abbrev pub RehearsalsAgree : Type 0
-RehearsalsAgree = (s : List ℕ) (n f : ℕ) → form_of s ≡ Good n f → breach s n f ≡ 0 → (log : List ℕ) × OneLog s n f log
+RehearsalsAgree = (s : List ℕ) (h : Header) → form_of s ≡ Ok h → breach s h.n h.f ≡ 0 → (log : List ℕ) × OneLog s h.n h.f log
 
 -- ---- such a schedule is a run that demand 3 grants, signing included
 
@@ -56,4 +56,4 @@ module _ (s : List ℕ) (n f : ℕ) where
     pub counting : (k : ℕ) → Correct (hall_of s n f) k → Counting (hall_of s n f) marks k (marks k) slots
 
 abbrev pub RehearsalsGranted : Type 0
-RehearsalsGranted = (s : List ℕ) (n f : ℕ) → form_of s ≡ Good n f → breach s n f ≡ 0 → Grants s n f
+RehearsalsGranted = (s : List ℕ) (h : Header) → form_of s ≡ Ok h → breach s h.n h.f ≡ 0 → Grants s h.n h.f

@@ -3,40 +3,23 @@
 
 ghost use Rattle.std.specs.Prelude.{◌≡◌, true};
 ghost use Rattle.rehearsal.specs.Claim.{RehearsalsAgree, RehearsalsGranted};
-ghost use Rattle.rehearsal.specs.Rehearsal.{Rehearse, refused_rehearsal};
+ghost use Rattle.rehearsal.specs.Rehearsal.{Rehearse};
 
 mod telling;
 
 use report::TEXT_MOST;
+use rules::Refusal;
 
-// The number of a refusal, or 0 and the length of the text.
-#[derive(Clone, Copy)]
-pub struct Rehearsed {
-    pub number: u8,
-    pub length: usize,
-}
-
-// A refusal: the number, and nothing else of use.
-fn refused(number: u8) -> Rehearsed
-    ensures { result ≡ refused_rehearsal number }
-{
-    Rehearsed { number, length: 0 }
-}
-
-// The whole text over the front of the output.
-pub fn rehearsal(schedule: &[u8], output: &mut [u8]) -> Rehearsed
+// The whole text over the front of the output; how many bytes it has.
+pub fn rehearsal(schedule: &[u8], output: &mut [u8]) -> Result<usize, Refusal>
     ensures { Rehearse schedule.now output.old result output.new }
 {
     let mut text = [0u8; TEXT_MOST];
     let size = telling::tell(schedule, &mut text);
     if output.len() < size {
-        return refused(9);
+        return Err(Refusal::Short);
     }
-    let written = print::put_bytes(output, &text[..size]);
-    Rehearsed {
-        number: 0,
-        length: written,
-    }
+    Ok(print::put_bytes(output, &text[..size]))
 }
 
 // Every schedule that is not bad prints one log, which is a log, with every entry of every correct node's tray, and the correct nodes as its signers.

@@ -6,8 +6,8 @@ fn main() {
     let mut input = [0u8; schedule::SCHEDULE_MOST + 1];
     let got = io::read_full(0, &mut input);
     let mut output = [0u8; report::TEXT_MOST];
-    let answer = rehearsal::rehearsal(&input[..got], &mut output);
-    if !io::write_all(1, &output[..answer.length]) {
+    let length = rehearsal::rehearsal(&input[..got], &mut output).unwrap_or(0);
+    if !io::write_all(1, &output[..length]) {
         io::write_all(2, b"rehearse: the output could not be written\n");
     }
 }

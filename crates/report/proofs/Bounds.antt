@@ -30,7 +30,7 @@ use Rattle.report.proofs.Printing.{lines_append, node_after_lem, no_nodes_lem}
 pub log_text_most : (log : List ℕ) → AreEntries log → length log ≤ decided_most → length (list_text Entries log) ≤ 5888
 log_text_most log h l = omega (arith, entries_most log h)
 
-that_most : (t : ℕ → Bool) (n : ℕ) → length (nodes_that t n) ≤ n
+pub that_most : (t : ℕ → Bool) (n : ℕ) → length (nodes_that t n) ≤ n
 unfolding nodes_that gather
 that_most t zero = omega arith
 that_most t (suc n) = omega (arith, length-append (nodes_that t n) (cond (t n) (n ∷ []) []), one (t n), that_most t n)

@@ -1,5 +1,5 @@
 -- The nodes whose bit is set are listed in node order.
-use Prim.Native.Nat.{ℕ, ◌+◌, ◌<◌}
+use Prim.Native.Nat.{ℕ, ◌+◌, ◌≤◌, ◌<◌}
 use mathlib.Core.Path.{◌≡◌, refl, sym, ap, ◌∙◌}
 use mathlib.Core.Bool.{Bool, true, false}
 use mathlib.Core.List.{List, [], ◌∷◌, ◌++◌, append-nil}
@@ -9,9 +9,9 @@ use lib.ListN.{length, set, length-set}
 use lib.Seq.{take-suc-set}
 use Rattle.rules.specs.Sizes.{nodes_most}
 use Rattle.rules.specs.Step.{gather}
+use Rattle.entries.specs.Places.{held_in, none_in}
+use Rattle.entries.specs.declared.places.Places.{Places}
 use Rattle.report.specs.Lines.{nodes_that}
-use Rattle.report.specs.Listing.{Lists}
-use Rattle.report.specs.declared.listing.Listing.{Listing}
 
 module _ (t : ℕ → Bool) where
   passed_over : (j : ℕ) → t j ≡ false → nodes_that t j ≡ nodes_that t (j + 1)
@@ -22,17 +22,21 @@ module _ (t : ℕ → Bool) where
   unfolding nodes_that gather
   taken_up_lem j e = rw (add-one j) (simp e)
 
-  pub none_listed : (places : List ℕ) → length places ≡ nodes_most → Lists t 0 (record { count = 0; nodes = places })
+  -- the nodes below j that pass the test stand in the first places
+  abbrev pub Listed : ℕ → Places nodes_most → Type 0
+  Listed j x = (x.count ≤ j) × (length x.entries ≡ nodes_most) × (held_in x ≡ nodes_that t j)
+
+  pub none_listed : Listed 0 (none_in nodes_most)
   unfolding nodes_that gather
-  none_listed places l = record { places = l; few = omega arith; are = refl }
+  none_listed = (omega arith, refl, refl)
 
-  module _ (j : ℕ) (x : Listing) (h : Lists t j x) where
-    pub not_listed : t j ≡ false → Lists t (j + 1) x
-    not_listed e = record { places = h.places; few = omega (arith, h.few); are = h.are ∙ passed_over j e }
+  module _ (j : ℕ) (x : Places nodes_most) (h : Listed j x) where
+    pub not_listed : t j ≡ false → Listed (j + 1) x
+    not_listed e = (omega (arith, h.0), h.1, h.2 ∙ passed_over j e)
 
-    pub one_listed : t j ≡ true → j < nodes_most → Lists t (j + 1) (record { count = x.count + 1; nodes = set x.nodes x.count j })
-    one_listed e l = record {
-      places = length-set x.nodes x.count j ∙ h.places;
-      few = omega (arith, h.few);
-      are = rw (add-one x.count) (take-suc-set x.nodes x.count j (omega (arith, h.few, h.places))) ∙ ap (λ (y : List ℕ). y ++ (j ∷ [])) h.are ∙ taken_up_lem j e;
-    }
+    pub one_listed : t j ≡ true → j < nodes_most → Listed (j + 1) (record { count = x.count + 1; entries = set x.entries x.count j })
+    one_listed e l = (
+      omega (arith, h.0),
+      length-set x.entries x.count j ∙ h.1,
+      rw (add-one x.count) (take-suc-set x.entries x.count j (omega (arith, h.0, h.1))) ∙ ap (λ (y : List ℕ). y ++ (j ∷ [])) h.2 ∙ taken_up_lem j e,
+    )

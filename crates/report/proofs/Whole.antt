@@ -14,10 +14,11 @@ use Rattle.node.specs.State.{node_at}
 use Rattle.node.specs.declared.Node.{Node}
 use Rattle.outcome.specs.Logs.{made_log}
 use Rattle.outcome.specs.Signing.{has_bit}
-use Rattle.outcome.specs.Held.{held_at, log_in, AllFit}
+use Rattle.outcome.specs.Held.{log_at}
 use Rattle.outcome.specs.Outcome.{ComesTo}
 use Rattle.outcome.specs.declared.Outcome.{Outcome}
-use Rattle.outcome.proofs.Made.{held_log, log_most_lem, held_fit}
+use Rattle.entries.specs.Places.{held_in}
+use Rattle.outcome.proofs.Made.{held_log}
 use Rattle.report.specs.Lines.{lines_text, sizes_lines, all_lines, nodes_that, signers_at, report_lines}
 use Rattle.report.specs.Report.{Writes, Reports}
 use Rattle.report.specs.Listing.{AllEntries}
@@ -39,16 +40,13 @@ module _ (n f faulty : ℕ) (nodes : List Node) (o : Outcome) (comes : ComesTo n
   log i = made_log (node_at nodes i)
 
   abbrev held : ℕ → List ℕ
-  held i = log_in (held_at o.logs i)
+  held = log_at o.logs
 
   abbrev listed : ℕ → List ℕ
   listed i = nodes_that (has_bit (get_or o.signers i 0)) n
 
-  pub outcome_fits : AllFit o.logs
-  outcome_fits = held_fit log (λ j. log_most_lem (node_at nodes j)) o.logs comes.made
-
   its_log : (j : ℕ) → j < n → has_bit faulty j ≡ false → held j ≡ log j
-  its_log j l e = ap log_in (comes.made j (le_trans l most)) ∙ held_log (log j)
+  its_log j l e = ap held_in (comes.made j (le_trans l most)) ∙ held_log (log j)
 
   its_signers : (j : ℕ) → j < n → has_bit faulty j ≡ false → listed j ≡ signers_at n f (has_bit faulty) log j
   its_signers j l e = ap (λ (m : ℕ). nodes_that (has_bit m) n) (comes.signed most j l e)

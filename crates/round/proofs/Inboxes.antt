@@ -18,10 +18,9 @@ use Rattle.wire.specs.Message.{votes_of, silent}
 use Rattle.wire.specs.Inbox.{place_of, end_at, message_of, is_unreadable, unreadable_senders}
 use Rattle.wire.proofs.Cuts.{Told, too_short, own_place}
 use Rattle.keeping.specs.Keeping.{takes_up}
-use Rattle.round.specs.Found.{votes_in, heard_from, Take, TakeInbox}
+use Rattle.round.specs.Found.{votes_in, heard_from, Take, TakeMessage, TakeInbox}
 use Rattle.keeping.specs.declared.Found.{Found}
 use Rattle.round.proofs.Takes.{take_none, take_join}
-use Rattle.round.proofs.Messages.{TakeMessage}
 
 -- ---- what the mask tells of a sender
 

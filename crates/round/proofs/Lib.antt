@@ -1,3 +1,4 @@
+pub mod Mapped
 pub mod Starts
 pub mod Takes
 pub mod Messages

@@ -4,14 +4,13 @@ use mathlib.Core.Path.{◌≡◌, refl, sym, ap, ap₂, subst, ◌∙◌}
 use mathlib.Core.Logic.{◌⊎◌, inl, inr, ⊎_elim, ◌↔◌}
 use mathlib.Core.Bool.{Bool, true, false}
 use mathlib.Core.List.{List, [], ◌∷◌, ◌++◌, append_assoc, append-nil}
-use mathlib.Core.Option.{Option, none, some}
+use mathlib.Core.Option.{Option, none, some, none-ne-some}
 use native.Mathlib.Omega.{arith}
 use borrow.Author.Tests.{leb-true, leb-false}
 use lib.Dec.{leb, lit<}
 use lib.ListN.{length, drop, length-drop, take-append-drop}
 use lib.Seq.{drop-append_seam}
 use Rattle.laws.specs.Members.{In}
-use Rattle.wire.proofs.Sayable.{not_some}
 use Rattle.laws.proofs.Tests.{clash}
 use Rattle.rules.specs.Sizes.{nodes_most}
 use Rattle.rules.specs.Vote.{Vote}
@@ -139,10 +138,10 @@ module _ (n : ℕ) (nodes : n ≤ nodes_most) (s : List ℕ) where
     again_by vs l e (inl q) =
         let g : c.votes ≡ vs = let f = sym (all_read q) ∙ e in cc in
         subst (λ (us : List Vote). BytesOf n s us) g (record { bytes = all_bytes q; sayable = c.sayable; short = l })
-    again_by vs l e (inr q) = not_some (sym (none_read q.0 q.1) ∙ e)
+    again_by vs l e (inr q) = absurd (none-ne-some _ (sym (none_read q.0 q.1) ∙ e))
 
     stuck_by : votes_after n 0 s ≡ none → Ends n c.rest → OneUnreadable n s
-    stuck_by e (inl q) = not_some (sym e ∙ all_read q)
+    stuck_by e (inl q) = absurd (none-ne-some _ (sym e ∙ all_read q))
     stuck_by e (inr q) =
         record { votes = c.votes; rest = c.rest; bytes = c.bytes; sayable = c.sayable; left = q.0; not_read = q.1 }
 
@@ -176,7 +175,7 @@ module _ (n : ℕ) (nodes : n ≤ nodes_most) (s : List ℕ) where
     whole_cut = cut (length s) n s (omega arith) t
 
     written_again : (vs : List Vote) → votes_of n s ≡ some vs → BytesOf n s vs
-    written_again vs e = ⊎_elim (λ l. again_by whole_cut vs l.0 (sym l.1 ∙ e) whole_cut.ends) (λ l. not_some (sym l.1 ∙ e)) limit
+    written_again vs e = ⊎_elim (λ l. again_by whole_cut vs l.0 (sym l.1 ∙ e) whole_cut.ends) (λ l. absurd (none-ne-some _ (sym l.1 ∙ e))) limit
 
     heard : (o : Option (List Vote)) → votes_of n s ≡ o → silent o ≡ false → (vs : List Vote) × BytesOf n s vs
     heard none e h = absurd (clash refl h)

@@ -2,7 +2,7 @@
 use Prim.Native.Nat.{◌+◌, ◌-◌, ◌<◌, ◌≤◌, suc, ℕ}
 use mathlib.Core.Bool.{cond, false, true}
 use mathlib.Core.List.{List, [], ◌∷◌}
-use mathlib.Core.Option.{Option, none, some}
+use Rattle.std.specs.Prelude.{Option, Some, None, Result, Ok, Err, is_some}
 use mathlib.Core.Path.{◌∙◌, ◌≡◌, ap, ap₂, refl, sym}
 use native.Mathlib.Omega.{arith}
 use borrow.Author.Tests.{eq-eqb, le-leb, le-ltb, lt-leb, lt-ltb, ne_eqb}
@@ -11,14 +11,11 @@ use lib.ListN.{drop, get_or, length}
 use Rattle.text.specs.Lines.{keyed, lines_of, list_line}
 use Rattle.text.specs.Lists.{listed_as}
 use Rattle.text.specs.declared.Kind.TheVariants.{Entry}
-use Rattle.text.specs.declared.Listed.{Listed}
 use Rattle.schedule.specs.Forms.{form_after, form_of, form_sends, form_trays, found, is_end, is_tray, schedule_most}
-use Rattle.header.specs.Header.{headed_of, header_size}
+use Rattle.header.specs.Header.{bad, headed_of, header_size}
+use Rattle.header.specs.declared.BadLine.{BadLine}
 use Rattle.schedule.specs.Keys.{end_key, tray_key}
 use Rattle.schedule.specs.Sends.{rank_in, send_of}
-use Rattle.schedule.specs.declared.Form.TheVariants.{Bad, Good}
-use Rattle.header.specs.declared.Headed.{Headed}
-use Rattle.header.specs.declared.Headed.TheVariants.{BadAt, Read}
 use Rattle.header.specs.declared.Header.{Header}
 
 -- ---- the end, and trays
@@ -31,27 +28,27 @@ pub end_yes : (l : List ℕ) → keyed end_key l ≡ true → is_end l ≡ eqb (
 unfolding is_end
 end_yes l e = simp e
 
-pub tray_is : (l : List ℕ) (L : Listed) → L ≡ listed_as (list_line tray_key Entry l) → L.good ≡ is_tray l
+pub tray_is : (l : List ℕ) → is_some (listed_as (list_line tray_key Entry l)) ≡ is_tray l
 unfolding is_tray found listed_as
-tray_is l L e = ap (λ (x : Listed). x.good) e ∙ go (list_line tray_key Entry l)
+tray_is l = go (list_line tray_key Entry l)
   where
-    go : (o : Option (List ℕ)) → (listed_as o).good ≡ found o
-    go none = refl
-    go (some xs) = refl
+    go : (o : Option (List ℕ)) → is_some (listed_as o) ≡ found o
+    go None = refl
+    go (Some xs) = refl
 
 -- ---- sends
 
 module _ (h : Header) (k last : ℕ) (l : List ℕ) (ls : List (List ℕ)) where
-  pub sends_good : is_end l ≡ true → length ls ≡ 0 → form_sends h k last (l ∷ ls) ≡ Good h.n h.f
+  pub sends_good : is_end l ≡ true → length ls ≡ 0 → form_sends h k last (l ∷ ls) ≡ Ok h
   unfolding form_sends
   sends_good a b = simp (a, eq-eqb _ _ b)
 
-  pub sends_more : is_end l ≡ true → (length ls ≡ 0 → ⊥) → form_sends h k last (l ∷ ls) ≡ Bad (k + 1)
+  pub sends_more : is_end l ≡ true → (length ls ≡ 0 → ⊥) → form_sends h k last (l ∷ ls) ≡ bad (k + 1)
   unfolding form_sends
   sends_more a b = simp (a, ne_eqb _ _ b)
 
   module _ (r : ℕ) (re : r ≡ rank_in h (send_of l)) (a : is_end l ≡ false) where
-    pub sends_bad : r ≤ last → form_sends h k last (l ∷ ls) ≡ Bad k
+    pub sends_bad : r ≤ last → form_sends h k last (l ∷ ls) ≡ bad k
     unfolding form_sends
     sends_bad o = let o' : rank_in h (send_of l) ≤ last = omega arith in simp (a, le-ltb _ _ o')
 
@@ -61,21 +58,21 @@ module _ (h : Header) (k last : ℕ) (l : List ℕ) (ls : List (List ℕ)) where
         let o' : last < rank_in h (send_of l) = omega arith in
         simp (a, lt-ltb _ _ o') (ap (λ (x : ℕ). form_sends h (k + 1) x ls) (sym re))
 
-pub sends_end : (h : Header) (k last : ℕ) (ls : List (List ℕ)) → ls ≡ [] → form_sends h k last ls ≡ Bad k
+pub sends_end : (h : Header) (k last : ℕ) (ls : List (List ℕ)) → ls ≡ [] → form_sends h k last ls ≡ bad k
 unfolding form_sends
 sends_end h k last ls e = ap (form_sends h k last) e
 
 -- ---- trays
 
 module _ (h : Header) (k i : ℕ) (l : List ℕ) (ls rest : List (List ℕ)) (le : l ≡ get_or ls 0 []) (re : drop 1 ls ≡ rest) (o : i < h.n) where
-  trays_are : form_trays h k (h.n - i) ls ≡ cond (is_tray l) (form_trays h (k + 1) (h.n - (i + 1)) rest) (Bad k)
+  trays_are : form_trays h k (h.n - i) ls ≡ cond (is_tray l) (form_trays h (k + 1) (h.n - (i + 1)) rest) (bad k)
   unfolding form_trays
   trays_are =
       let e : h.n - i ≡ suc (h.n - (i + 1)) = omega arith in
       ap (λ (j : ℕ). form_trays h k j ls) e
-      ∙ ap₂ (λ (x : List ℕ) (xs : List (List ℕ)). cond (is_tray x) (form_trays h (k + 1) (h.n - (i + 1)) xs) (Bad k)) (sym le) re
+      ∙ ap₂ (λ (x : List ℕ) (xs : List (List ℕ)). cond (is_tray x) (form_trays h (k + 1) (h.n - (i + 1)) xs) (bad k)) (sym le) re
 
-  pub trays_bad : is_tray l ≡ false → form_trays h k (h.n - i) ls ≡ Bad k
+  pub trays_bad : is_tray l ≡ false → form_trays h k (h.n - i) ls ≡ bad k
   trays_bad a = trays_are ∙ simp a
 
   pub trays_go : is_tray l ≡ true → form_trays h k (h.n - i) ls ≡ form_trays h (k + 1) (h.n - (i + 1)) rest
@@ -87,7 +84,7 @@ trays_end h k i ls l = let e : h.n - i ≡ 0 = omega arith in ap (λ (j : ℕ). 
 
 -- ---- the whole
 
-pub form_long : (s : List ℕ) → schedule_most < length s → form_of s ≡ Bad 0
+pub form_long : (s : List ℕ) → schedule_most < length s → form_of s ≡ bad 0
 unfolding form_of
 form_long s h = simp (lt-leb _ _ h)
 
@@ -96,10 +93,10 @@ module _ (s : List ℕ) (h : length s ≤ schedule_most) where
   unfolding form_of
   form_is = simp (le-leb _ _ h)
 
-  pub form_bad : (k : ℕ) → headed_of (lines_of s) ≡ BadAt k → form_of s ≡ Bad k
+  pub form_bad : (line : BadLine) → headed_of (lines_of s) ≡ Err line → form_of s ≡ Err line
   unfolding form_after
-  form_bad k e = form_is ∙ ap (λ (x : Headed). form_after x (drop header_size (lines_of s))) e
+  form_bad line e = form_is ∙ ap (λ (x : Result Header BadLine). form_after x (drop header_size (lines_of s))) e
 
-  pub form_good : (x : Header) → headed_of (lines_of s) ≡ Read x → form_of s ≡ form_trays x (header_size + 1) x.n (drop header_size (lines_of s))
+  pub form_good : (x : Header) → headed_of (lines_of s) ≡ Ok x → form_of s ≡ form_trays x (header_size + 1) x.n (drop header_size (lines_of s))
   unfolding form_after
-  form_good x e = form_is ∙ ap (λ (y : Headed). form_after y (drop header_size (lines_of s))) e
+  form_good x e = form_is ∙ ap (λ (y : Result Header BadLine). form_after y (drop header_size (lines_of s))) e

@@ -1,41 +1,33 @@
 // A send: its line, and whether it fits.
-ghost use Rattle.std.specs.Prelude.{◌≡◌};
+#![tactic(auto, unfolding(crate::specs::Sends::fitting))]
+
+ghost use Rattle.std.specs.Prelude.{◌≡◌, unwrap_or};
 ghost use Rattle.text.specs.Lines.{value_of};
 ghost use Rattle.schedule.specs.Keys.{send_key};
-ghost use Rattle.schedule.specs.Sends.{faulty_bit, fitting, message_text, rank_in, send_in, send_of, sending_as};
+ghost use Rattle.schedule.specs.Sends.{fitting, message_text, rank_in, send_in, send_of, sending_as};
 
-use crate::Sending;
+use crate::Send;
 use header::Header;
 use rules::NODES_MOST;
-use text::{COMMA, Number, WORD_MOST};
+use text::{COMMA, WORD_MOST};
 
 // round,from,to,message
-fn read_value(v: &[u8]) -> Sending
+fn read_value(v: &[u8]) -> Option<Send>
     ensures { result ≡ sending_as (send_in v.now) }
 {
-    let Number::Value(round) = text::read_field(v, COMMA, WORD_MOST) else {
-        return Sending::NoSend;
-    };
+    let round = text::read_field(v, COMMA, WORD_MOST)? as usize;
     let after = text::past(v, COMMA);
-    let Number::Value(from) = text::read_field(after, COMMA, WORD_MOST) else {
-        return Sending::NoSend;
-    };
-    let Number::Value(to) = text::read_field(text::past(after, COMMA), COMMA, WORD_MOST) else {
-        return Sending::NoSend;
-    };
-    Sending::Sent {
-        round: round as usize,
-        from: from as usize,
-        to: to as usize,
-    }
+    let from = text::read_field(after, COMMA, WORD_MOST)? as usize;
+    let to = text::read_field(text::past(after, COMMA), COMMA, WORD_MOST)? as usize;
+    Some(Send { round, from, to })
 }
 
 // The send in a line.
-pub fn read_send(line: &[u8]) -> Sending
+pub fn read_send(line: &[u8]) -> Option<Send>
     ensures { result ≡ sending_as (send_of line.now) }
 {
     if !text::keyed(line, b"send=") {
-        return Sending::NoSend;
+        return None;
     }
     read_value(text::value(line, b"send="))
 }
@@ -49,52 +41,26 @@ pub fn message_text(line: &[u8]) -> &[u8]
     text::past(text::past(after, COMMA), COMMA)
 }
 
-// Whether node j is faulty. A mask has no bit 16 or above.
-fn is_faulty(h: Header, j: usize) -> bool
-    ensures { result ≡ faulty_bit h j }
-{
-    if NODES_MOST <= j {
-        return false;
-    }
-    (h.faulty >> j) % 2 == 1
-}
-
 // Round 1 to f + 1, from faulty, to correct, message of 1 to 3,960 bytes.
-fn is_fitting(h: Header, round: usize, from: usize, to: usize, size: usize) -> bool
-    ensures { result ≡ fitting h round from to size }
+fn is_fitting(h: Header, send: Send, size: usize) -> bool
+    ensures { result ≡ fitting h send.round send.from send.to size }
 {
-    if round < 1 {
-        return false;
-    }
-    if h.f < round - 1 {
-        return false;
-    }
-    if !is_faulty(h, from) {
-        return false;
-    }
-    if h.n <= to {
-        return false;
-    }
-    if is_faulty(h, to) {
-        return false;
-    }
-    if size < 1 {
-        return false;
-    }
-    size <= wire::MESSAGE_MOST
+    1 <= send.round
+        && send.round - 1 <= h.f
+        && h.is_faulty(send.from)
+        && send.to < h.n
+        && !h.is_faulty(send.to)
+        && 1 <= size
+        && size <= wire::MESSAGE_MOST
 }
 
-// The place of a line's send in the order by round, from, to; 0 for anything but a send that fits.
-pub(crate) fn send_rank(h: Header, line: &[u8]) -> usize
-    ensures { result ≡ rank_in h (send_of line.now) }
+// The place of a line's send in the order by round, from, to; none for anything but a send that fits.
+pub(crate) fn send_rank(h: Header, line: &[u8]) -> Option<usize>
+    ensures { unwrap_or result 0 ≡ rank_in h (send_of line.now) }
 {
-    match read_send(line) {
-        Sending::Sent { round, from, to } => {
-            if !is_fitting(h, round, from, to, text::hex_size(message_text(line))) {
-                return 0;
-            }
-            (round * NODES_MOST + from) * NODES_MOST + to
-        }
-        Sending::NoSend => 0,
+    let send = read_send(line)?;
+    if !is_fitting(h, send, text::hex_size(message_text(line))) {
+        return None;
     }
+    Some((send.round * NODES_MOST + send.from) * NODES_MOST + send.to)
 }

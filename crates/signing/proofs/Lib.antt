@@ -1,4 +1,3 @@
-pub mod Marks
 pub mod Slots
-pub mod Answers
 pub mod Determined
+pub mod Answers

@@ -10,11 +10,3 @@ pub use count::signers;
 pub const MARK_SIZE: usize = 32;
 // Bytes of a slot: one that says whether it speaks, then a mark.
 pub const SLOT_SIZE: usize = 1 + MARK_SIZE;
-
-// A refusal's number or 0, and the mask of the signers.
-#[repr(C)]
-#[derive(Clone, Copy)]
-pub struct SigningCount {
-    pub number: u8,
-    pub mask: u16,
-}

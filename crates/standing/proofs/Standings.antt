@@ -6,11 +6,11 @@ use mathlib.Core.Bool.{Bool, true, false, cond}
 use mathlib.Core.List.{List, [], ◌∷◌}
 use native.Mathlib.Numerals.{add-one}
 use native.Mathlib.Omega.{arith}
-use borrow.Author.Tests.{lt-ltb, le-ltb, le-leb, eq-eqb, ne_eqb}
+use borrow.Author.Tests.{lt-ltb, le-ltb, le-leb}
 use lib.Dec.{eqb}
 use lib.ListN.{length, drop, replicate}
 use lib.Seq.{take_at}
-use Rattle.laws.specs.Masks.{bit, mask_of}
+use Rattle.laws.specs.Masks.{bit}
 use Rattle.node.specs.State.{node_at}
 use Rattle.laws.proofs.Bits.{mask_tells}
 use Rattle.rules.specs.Sizes.{nodes_most, sized}
@@ -31,7 +31,10 @@ use Rattle.agreement.proofs.Follows.{Unhindered}
 use Rattle.agreement.proofs.Carried.{Given, arrives_whole, inbox_is, unhindered}
 use Rattle.entries.specs.Bytes.{AreEntries}
 use Rattle.schedule.specs.Forms.{form_of}
-use Rattle.schedule.specs.declared.Form.TheVariants.{Good}
+use Rattle.header.specs.declared.Header.{Header}
+use Rattle.std.specs.Prelude.{Ok}
+use Rattle.contents.proofs.Faults.{mask_is}
+use Rattle.contents.proofs.Told.{held}
 use Rattle.contents.specs.Contents.{is_faulty, entries_of_tray, message_for}
 use Rattle.contents.proofs.Good.{good_sizes, tray_batch, tray_entries}
 use Rattle.contents.proofs.Found.{message_bytes_lem, message_size}
@@ -75,21 +78,21 @@ module _ (hall : Hall) (here : Standing) where
 
 -- ---- the run of a schedule of good form
 
-module _ (s : List ℕ) (n f : ℕ) (form : form_of s ≡ Good n f) where
+module _ (s : List ℕ) (h : Header) (form : form_of s ≡ Ok h) where
   abbrev hall : Hall
-  hall = hall_of s n f
+  hall = hall_of s h.n h.f
 
-  pub nodes_sized : sized n ≡ true
-  nodes_sized = (good_sizes s n f form).0
+  pub nodes_sized : sized h.n ≡ true
+  nodes_sized = (good_sizes s h form).0
 
-  pub nodes_most_lem : n ≤ nodes_most
-  nodes_most_lem = sized_most n nodes_sized
+  pub nodes_most_lem : h.n ≤ nodes_most
+  nodes_most_lem = sized_most h.n nodes_sized
 
-  pub nodes_above : 2 * f < n
-  nodes_above = (good_sizes s n f form).1
+  pub nodes_above : 2 * h.f < h.n
+  nodes_above = (good_sizes s h form).1
 
   -- what the run is given
-  pub given : Given n f (is_faulty s) (λ i. tray_of (entries_of_tray s i)) (λ r j i. message_for s r j i) []
+  pub given : Given h.n h.f (is_faulty s) (λ i. tray_of (entries_of_tray s i)) (λ r j i. message_for s r j i) []
   given = record {
     nodes = nodes_sized;
     above = nodes_above;
@@ -99,40 +102,40 @@ module _ (s : List ℕ) (n f : ℕ) (form : form_of s ≡ Good n f) where
   }
 
   pub goes_on : (i : ℕ) → Correct hall i → Unhindered hall i
-  goes_on = unhindered n f (is_faulty s) (λ i. tray_of (entries_of_tray s i)) (λ r j i. message_for s r j i) [] given
+  goes_on = unhindered h.n h.f (is_faulty s) (λ i. tray_of (entries_of_tray s i)) (λ r j i. message_for s r j i) [] given
 
-  is_correct : (i : ℕ) → i < n → is_faulty s i ≡ false → correct hall i ≡ true
-  is_correct i l e = simp (lt-ltb i n l, e)
+  is_correct : (i : ℕ) → i < h.n → is_faulty s i ≡ false → correct hall i ≡ true
+  is_correct i l e = simp (lt-ltb i h.n l, e)
 
-  sends_short : (i k : ℕ) → i < n → length (sends hall i k) ≤ message_most
+  sends_short : (i k : ℕ) → i < h.n → length (sends hall i k) ≤ message_most
   sends_short i k l =
-      outbox_short n f i (hall.tray i) (hall.inbox i) (hall.room i) (majority n f i nodes_sized nodes_above ∙ lt-ltb i n l) k
+      outbox_short h.n h.f i (hall.tray i) (hall.inbox i) (hall.room i) (majority h.n h.f i nodes_sized nodes_above ∙ lt-ltb i h.n l) k
 
-  module _ (faulty : ℕ) (mask : faulty ≡ mask_of (is_faulty s) nodes_most) (here : Standing) (stands : here ≡ standing hall here.next) where
+  module _ (here : Standing) (stands : here ≡ standing hall here.next) where
     -- a faulty node's bit
-    bit_is : (j : ℕ) → j < nodes_most → eqb (bit faulty j) 1 ≡ is_faulty s j
-    bit_is j l = ap (λ (m : ℕ). eqb (bit m j) 1) mask ∙ mask_tells (is_faulty s) nodes_most j l
+    bit_is : (j : ℕ) → j < nodes_most → eqb (bit h.faulty j) 1 ≡ is_faulty s j
+    bit_is j l = ap (λ (m : ℕ). eqb (bit m j) 1) (mask_is s h (held s h form).read) ∙ mask_tells (is_faulty s) nodes_most j l
 
     -- ---- the inbox
 
     module _ (i q : ℕ) (round : here.next ≡ suc q) where
       -- a schedule's message is short, so it arrives
       arrives : (j : ℕ) → message_for s (suc q) j i ≡ arriving (message_for s (suc q) j i)
-      arrives j = sym (arrives_whole (message_for s (suc q) j i) (omega (arith, message_size s n f (suc q) j i form)))
+      arrives j = sym (arrives_whole (message_for s (suc q) j i) (omega (arith, message_size s h (suc q) j i form)))
 
       -- the message of node j, as the run carries it
       abbrev comes : ℕ → List ℕ
-      comes j = message n (is_faulty s) (λ r k to. message_for s r k to) (suc q) i (λ k. sends hall k (suc q)) j
+      comes j = message h.n (is_faulty s) (λ r k to. message_for s r k to) (suc q) i (λ k. sends hall k (suc q)) j
 
-      same_message : (j : ℕ) → j < n → message_to s faulty here.next i j (outbox_at here.outboxes j) ≡ comes j
+      same_message : (j : ℕ) → j < h.n → message_to s h.faulty here.next i j (outbox_at here.outboxes j) ≡ comes j
       same_message j l = go (is_faulty s j) refl
         where
           most : j < nodes_most
           most = omega (arith, nodes_most_lem, l)
 
-          go : (b : Bool) → is_faulty s j ≡ b → message_to s faulty here.next i j (outbox_at here.outboxes j) ≡ comes j
+          go : (b : Bool) → is_faulty s j ≡ b → message_to s h.faulty here.next i j (outbox_at here.outboxes j) ≡ comes j
           go true e =
-              let m : given_in (message_for s here.next j i) ≡ message_for s here.next j i = simp (le-leb _ message_most (message_size s n f here.next j i form)) in
+              let m : given_in (message_for s here.next j i) ≡ message_for s here.next j i = simp (le-leb _ message_most (message_size s h here.next j i form)) in
               ap₂ (λ (b : Bool) (x : List ℕ). cond (eqb j i) [] (cond b x (sent_in (outbox_at here.outboxes j)))) (bit_is j most ∙ e) m ∙ rw (e, round) (ap (λ (x : List ℕ). cond (eqb j i) [] x) (arrives j))
           go false e =
               let o : outbox_at here.outboxes j ≡ outbox_of (sends hall j (suc q)) =
@@ -143,10 +146,10 @@ module _ (s : List ℕ) (n f : ℕ) (form : form_of s ≡ Good n f) where
               ∙ ap (λ (x : List ℕ). cond (eqb j i) [] x) m
               ∙ sym (ap (λ (b : Bool). cond (eqb j i) [] (cond b (arriving (message_for s (suc q) j i)) (sends hall j (suc q)))) e)
 
-      pub inbox_here : inbox_to s n faulty here.next i here.outboxes ≡ hall.inbox i (suc q)
+      pub inbox_here : inbox_to s h.n h.faulty here.next i here.outboxes ≡ hall.inbox i (suc q)
       inbox_here =
-          ap inbox_bytes (gather_same _ _ n (λ j l. ap (λ (m : List ℕ). m ∷ []) (same_message j l)))
-          ∙ sym (inbox_is n f (is_faulty s) (λ j. tray_of (entries_of_tray s j)) (λ r j k. message_for s r j k) [] i q)
+          ap inbox_bytes (gather_same _ _ h.n (λ j l. ap (λ (m : List ℕ). m ∷ []) (same_message j l)))
+          ∙ sym (inbox_is h.n h.f (is_faulty s) (λ j. tray_of (entries_of_tray s j)) (λ r j k. message_for s r j k) [] i q)
 
     -- ---- node i after the round that is next
 
@@ -154,33 +157,34 @@ module _ (s : List ℕ) (n f : ℕ) (form : form_of s ≡ Good n f) where
       abbrev after_it : Stood
       after_it = stood_at hall (here.next + 1) i
 
-      pub beyond_all : (x : Stood) → n ≤ i → x ≡ stood_of nobody [] → x ≡ after_it
-      beyond_all x l e = e ∙ sym (simp (le-ltb i n l))
+      pub beyond_all : (x : Stood) → h.n ≤ i → x ≡ stood_of nobody [] → x ≡ after_it
+      beyond_all x l e = e ∙ sym (simp (le-ltb i h.n l))
 
-      pub is_faulty_lem : (x : Stood) → i < n → bit faulty i ≡ 1 → x ≡ stood_of nobody [] → x ≡ after_it
-      is_faulty_lem x l b e = e ∙ sym (simp (lt-ltb i n l, sym (bit_is i node) ∙ eq-eqb (bit faulty i) 1 b))
+      module _ (t : Bool) (b : t ≡ eqb (bit h.faulty i) 1) where
+        pub is_faulty_lem : (x : Stood) → i < h.n → t ≡ true → x ≡ stood_of nobody [] → x ≡ after_it
+        is_faulty_lem x l q e = e ∙ sym (simp (lt-ltb i h.n l, sym (b ∙ bit_is i node) ∙ q))
 
-      module _ (l : i < n) (b : bit faulty i ≢ 1) where
-        fine : is_faulty s i ≡ false
-        fine = sym (bit_is i node) ∙ ne_eqb (bit faulty i) 1 b
+        module _ (l : i < h.n) (clear : t ≡ false) where
+          fine : is_faulty s i ≡ false
+          fine = sym (b ∙ bit_is i node) ∙ clear
 
-        stood_next : (q : ℕ) → here.next ≡ q → after_it ≡ stood_of (node_after hall i q) (sends hall i (suc q))
-        unfolding node_before
-        stood_next q e =
-            let k : here.next + 1 ≡ suc q = ap (λ (x : ℕ). x + 1) e ∙ add-one q in
-            ap (λ (x : ℕ). stood_at hall x i) k ∙ simp (is_correct i l fine)
+          stood_next : (q : ℕ) → here.next ≡ q → after_it ≡ stood_of (node_after hall i q) (sends hall i (suc q))
+          unfolding node_before
+          stood_next q e =
+              let k : here.next + 1 ≡ suc q = ap (λ (x : ℕ). x + 1) e ∙ add-one q in
+              ap (λ (x : ℕ). stood_at hall x i) k ∙ simp (is_correct i l fine)
 
-        pub opens : (x : Stood) → here.next ≡ 0 → x ≡ stood_of (node_after hall i 0) (sends hall i 1) → x ≡ after_it
-        opens x z e = e ∙ sym (stood_next 0 z)
+          pub opens : (x : Stood) → here.next ≡ 0 → x ≡ stood_of (node_after hall i 0) (sends hall i 1) → x ≡ after_it
+          opens x z e = e ∙ sym (stood_next 0 z)
 
-        pub steps : (x : Stood) → here.next ≢ 0 → x ≡ stepped_to (node_at here.nodes i) (inbox_to s n faulty here.next i here.outboxes) → x ≡ after_it
-        unfolding after outbox node_before
-        steps x z e = go here.next refl
-          where
-            go : (q : ℕ) → here.next ≡ q → x ≡ after_it
-            go zero k = absurd (z k)
-            go (suc q) k =
-                let same : node_at here.nodes i ≡ node_after hall i q =
-                node_there hall here (suc q) (stands ∙ ap (standing hall) k) i node ∙ ap
-                (λ (t : Bool). (cond t (stood_of (node_before hall i (suc q)) (sends hall i (suc q))) (stood_of nobody [])).node) (is_correct i l fine) in
-                e ∙ ap₂ stepped_to same (inbox_here i q k) ∙ sym (stood_next (suc q) k)
+          pub steps : (x : Stood) → here.next ≢ 0 → x ≡ stepped_to (node_at here.nodes i) (inbox_to s h.n h.faulty here.next i here.outboxes) → x ≡ after_it
+          unfolding after outbox node_before
+          steps x z e = go here.next refl
+            where
+              go : (q : ℕ) → here.next ≡ q → x ≡ after_it
+              go zero k = absurd (z k)
+              go (suc q) k =
+                  let same : node_at here.nodes i ≡ node_after hall i q =
+                  node_there hall here (suc q) (stands ∙ ap (standing hall) k) i node ∙ ap
+                  (λ (t : Bool). (cond t (stood_of (node_before hall i (suc q)) (sends hall i (suc q))) (stood_of nobody [])).node) (is_correct i l fine) in
+                  e ∙ ap₂ stepped_to same (inbox_here i q k) ∙ sym (stood_next (suc q) k)

@@ -6,7 +6,7 @@ mod rounds;
 
 use inboxes::Outbox;
 use node::Node;
-pub use rounds::{advance_to, start};
+pub use rounds::{Run, start};
 use rules::NODES_MOST;
 
 // A node, and what it sends.
@@ -16,7 +16,8 @@ pub struct Stood {
     pub outbox: Outbox,
 }
 
-// Where a run stands: the round to be taken next (0 stands for the opening), the nodes by number, and what they send in it.
+// Where a run stands: the round to be taken next (0 stands for the opening), the nodes by number, and what they send in it. Two arrays, and not one of
+// pairs: the rule on shown votes and the report read all the nodes, and an inbox is put from all the outboxes.
 #[derive(Clone, Copy)]
 pub struct Standing {
     pub next: usize,

@@ -1,30 +1,37 @@
 // The rounds: every correct node opens, then steps round after round, all of them in each.
 ghost use Rattle.std.specs.Prelude.{◌≡◌, [], ◌+◌, ◌^◌, ◌≤◌, ◌<◌};
 ghost use Rattle.rules.specs.Sizes.{nodes_most};
+ghost use Rattle.node.specs.State.{node_at};
 ghost use Rattle.agreement.specs.Hall.{node_after, sends};
 ghost use Rattle.inboxes.specs.Inboxes.{inbox_to};
 ghost use Rattle.standing.specs.Standing.{nobody, standing, stepped_to, stood_at, stood_of, unopened};
 ghost use Rattle.standing.specs.Run.{Advances, Reached, hall_of};
 
 use crate::{Standing, Stood};
+use header::Header;
 use inboxes::{INBOX_MOST, Outbox};
 use node::Node;
 use rules::NODES_MOST;
+use std::array;
 use wire::MESSAGE_MOST;
+
+// The run of a schedule, which starts with this header.
+#[derive(Clone, Copy)]
+pub struct Run<'a> {
+    pub s: &'a [u8],
+    pub header: Header,
+}
 
 // A number that no correct node has.
 fn no_node() -> Stood
     ensures { result ≡ stood_of nobody [] }
 {
-    let made = Node::new(0, 0, 0);
-    let node = made.node;
-    let outbox = Outbox {
-        size: 0,
-        bytes: [0u8; MESSAGE_MOST],
-    };
     Stood {
-        node: node,
-        outbox: outbox,
+        node: Node::zeros(),
+        outbox: Outbox {
+            size: 0,
+            bytes: [0u8; MESSAGE_MOST],
+        },
     }
 }
 
@@ -33,121 +40,94 @@ pub fn start() -> Standing
     ensures { result ≡ unopened }
 {
     let filler = no_node();
-    let nobody = filler.node;
-    let silence = filler.outbox;
     Standing {
         next: 0,
-        nodes: [nobody; NODES_MOST],
-        outboxes: [silence; NODES_MOST],
+        nodes: [filler.node; NODES_MOST],
+        outboxes: [filler.outbox; NODES_MOST],
     }
 }
 
-// Node i, opened with its tray.
-fn open_node(s: &[u8], n: usize, f: usize, i: usize) -> Stood
-    ensures { result ≡ stood_of (node_after (hall_of s.now n f) i 0) (sends (hall_of s.now n f) i 1) }
-{
-    let made = Node::new(n, f, i);
-    let fresh = made.node;
-    let mut bytes = [0u8; MESSAGE_MOST];
-    let opened = node::open(fresh, contents::tray_of(s, i), &mut bytes);
-    let node = opened.node;
-    let outbox = Outbox {
-        size: opened.length,
-        bytes: bytes,
-    };
-    Stood {
-        node: node,
-        outbox: outbox,
+impl Run<'_> {
+    // Node i, opened with its tray.
+    fn open_node(&self, i: usize) -> Stood
+        ensures { let hall = hall_of self.now.s.now self.now.header.n self.now.header.f in
+            result ≡ stood_of (node_after hall i 0) (sends hall i 1) }
+    {
+        let mut node = Node::new(self.header.n, self.header.f, i).unwrap_or(Node::zeros());
+        let mut bytes = [0u8; MESSAGE_MOST];
+        let size = node::open(&mut node, &contents::tray_of(self.s, i), &mut bytes).unwrap_or(0);
+        Stood {
+            node,
+            outbox: Outbox { size, bytes },
+        }
     }
-}
 
-// Node i, stepped in round r by what each node hands it.
-fn step_node(
-    s: &[u8],
-    n: usize,
-    faulty: u16,
-    r: usize,
-    i: usize,
-    node: Node,
-    outboxes: [Outbox; NODES_MOST],
-) -> Stood
-    ensures { n ≤ nodes_most → result ≡ stepped_to node (inbox_to s.now n faulty r i outboxes) }
-{
-    let mut inbox = [0u8; INBOX_MOST];
-    let size = inboxes::put_inbox(s, n, faulty, r, i, outboxes, &mut inbox);
-    let mut bytes = [0u8; MESSAGE_MOST];
-    let stepped = step::step(node, &inbox[..size], &mut bytes);
-    let after = stepped.node;
-    let outbox = Outbox {
-        size: stepped.length,
-        bytes: bytes,
-    };
-    Stood {
-        node: after,
-        outbox: outbox,
+    // Node i, stepped in the round that is next by what each node hands it.
+    fn step_node(&self, here: &Standing, i: usize) -> Stood
+        requires { i < nodes_most }
+        ensures { self.now.header.n ≤ nodes_most →
+            result ≡ stepped_to (node_at here.now.nodes i) (inbox_to self.now.s.now self.now.header.n self.now.header.faulty here.now.next i here.now.outboxes) }
+    {
+        let mut inbox = [0u8; INBOX_MOST];
+        let length = inboxes::put_inbox(
+            self.s,
+            self.header,
+            here.next,
+            i,
+            &here.outboxes,
+            &mut inbox,
+        );
+        let mut node = here.nodes[i];
+        let mut bytes = [0u8; MESSAGE_MOST];
+        let size = step::step(&mut node, &inbox[..length], &mut bytes).map_or(
+            0,
+            |stepped| stepped.length,
+        );
+        Stood {
+            node,
+            outbox: Outbox { size, bytes },
+        }
     }
-}
 
-// Node i after the opening or the round that is next; zeros where no correct node has that number.
-fn next_node(s: &[u8], n: usize, f: usize, faulty: u16, here: Standing, i: usize) -> Stood
-    requires { i < nodes_most }
-    ensures { Reached s.now n f faulty here → result ≡ stood_at (hall_of s.now n f) (here.next + 1) i }
-{
-    if n <= i {
-        return no_node();
+    // Node i after the opening or the round that is next; zeros where no correct node has that number.
+    fn next_node(&self, here: &Standing, i: usize) -> Stood
+        requires { i < nodes_most }
+        ensures { let h = self.now.header in
+            Reached self.now.s.now h here.now → result ≡ stood_at (hall_of self.now.s.now h.n h.f) (here.now.next + 1) i }
+    {
+        if self.header.n <= i || self.header.is_faulty(i) {
+            return no_node();
+        }
+        if here.next == 0 {
+            return self.open_node(i);
+        }
+        self.step_node(here, i)
     }
-    if (faulty >> i) % 2 == 1 {
-        return no_node();
-    }
-    let round = here.next;
-    if round == 0 {
-        return open_node(s, n, f, i);
-    }
-    let nodes = here.nodes;
-    let outboxes = here.outboxes;
-    let node = nodes[i];
-    step_node(s, n, faulty, round, i, node, outboxes)
-}
 
-// The run after the opening or the round that is next.
-fn advance(s: &[u8], n: usize, f: usize, faulty: u16, here: Standing) -> Standing
-    requires { here.next + 1 < 2 ^ 64 }
-    ensures { (result.next ≡ here.next + 1) × (Reached s.now n f faulty here → result ≡ standing (hall_of s.now n f) (here.next + 1)) }
-{
-    let empty = start();
-    let mut nodes = empty.nodes;
-    let mut outboxes = empty.outboxes;
-    let mut i: usize = 0;
-    while i < NODES_MOST {
-        let stood = next_node(s, n, f, faulty, here, i);
-        let node = stood.node;
-        let outbox = stood.outbox;
-        nodes[i] = node;
-        outboxes[i] = outbox;
-        i += 1;
+    // The run after the opening or the round that is next.
+    fn advance(&self, here: &Standing) -> Standing
+        requires { here.now.next + 1 < 2 ^ 64 }
+        ensures next { result.next ≡ here.now.next + 1 }
+        ensures stands { let h = self.now.header in
+            Reached self.now.s.now h here.now → result ≡ standing (hall_of self.now.s.now h.n h.f) (here.now.next + 1) }
+    {
+        let stood: [Stood; NODES_MOST] = array::from_fn(|i| self.next_node(here, i));
+        Standing {
+            next: here.next + 1,
+            nodes: stood.map(|its| its.node),
+            outboxes: stood.map(|its| its.outbox),
+        }
     }
-    Standing {
-        next: here.next + 1,
-        nodes: nodes,
-        outboxes: outboxes,
-    }
-}
 
-// The run before this round, which is the next or a later one.
-pub fn advance_to(
-    s: &[u8],
-    n: usize,
-    f: usize,
-    faulty: u16,
-    here: Standing,
-    round: usize,
-) -> Standing
-    ensures { Advances s.now n f faulty here round result }
-{
-    let mut at = here;
-    while at.next < round {
-        let after = advance(s, n, f, faulty, at);
-        at = after;
+    // The run before this round, which is the next or a later one.
+    pub fn advance_to(&self, here: Standing, round: usize) -> Standing
+        ensures { Advances self.now.s.now self.now.header here round result }
+    {
+        let mut at = here;
+        // No count of its own: where the run stands says which round is next.
+        while at.next < round {
+            at = self.advance(&at);
+        }
+        at
     }
-    at
 }

@@ -8,6 +8,9 @@ use native.Mathlib.Omega.{arith}
 use borrow.Author.Tests.{le-leb}
 use lib.ListN.{length}
 use Rattle.node.proofs.Sound.{sound_sizes}
+use Rattle.std.proofs.Common.{Result}
+use Rattle.rules.specs.declared.refusal.Refusal.{Refusal}
+use Rattle.rules.proofs.Answers.{determined}
 use Rattle.rules.specs.Step.{kept_most}
 use Rattle.wire.specs.Sizes.{record_most}
 use Rattle.wire.specs.Message.{message_bytes}
@@ -18,13 +21,10 @@ use Rattle.step.specs.Step.{passed_by, in_rounds, step_number, Step}
 use Rattle.step.specs.declared.Stepped.{Stepped}
 use Rattle.step.proofs.PassedVotes.{passed_by_most}
 
-pub step_determined : (s : Node) (inbox outbox : List ℕ) (a b : Stepped) (o u : List ℕ) → Step s inbox outbox a o → Step s inbox outbox b u → (a ≡ b) × (o ≡ u)
-step_determined s inbox outbox a b o u p q =
-    let n : a.number ≡ b.number = p.number ∙ sym q.number in
-    let l : a.length ≡ b.length = p.size ∙ sym q.size in
-    let m : a.unreadable ≡ b.unreadable = p.unreadable ∙ sym q.unreadable in
-    let k : a.node ≡ b.node = p.node ∙ sym q.node in
-    (λ i. record { number = n i; length = l i; unreadable = m i; node = k i }, p.outbox_is ∙ sym q.outbox_is)
+pub step_determined : (s : Node) (inbox outbox : List ℕ) (a b : Result Stepped Refusal) (m n : Node) (o u : List ℕ)
+    → Step s inbox outbox a m o → Step s inbox outbox b n u → (a ≡ b) × (m ≡ n) × (o ≡ u)
+step_determined s inbox outbox a b m n o u p q =
+    (determined a b p.answers q.answers, p.node ∙ sym q.node, p.outbox_is ∙ sym q.outbox_is)
 
 pub never_9 : (s : Node) (inbox : List ℕ) (room : ℕ) → kept_most * (s.n - 1) * record_most ≤ room → step_number s inbox room ≢ 9
 unfolding step_number

@@ -12,6 +12,8 @@ use lib.ListN.{length}
 use Rattle.laws.specs.Members.{In}
 use Rattle.laws.proofs.Tests.{clash, both}
 use Rattle.rules.specs.Refusals.{if_done}
+use Rattle.std.proofs.Common.{Result}
+use Rattle.rules.specs.declared.refusal.Refusal.{Refusal}
 use Rattle.rules.specs.Vote.{Vote, batches}
 use Rattle.rules.proofs.Inbox.{taken_of}
 use Rattle.wire.proofs.Writings.{said}
@@ -86,8 +88,9 @@ module _ (s : Node) (inbox : List ℕ) where
         ∙ of_is_sound s.n s.f s.me (s.phase + 1) (entries_of s.own) (kept_by s inbox) (stepped_right r)
 
   -- whatever a step answers, a sound state stays sound
-  pub step_stays_sound : (out : List ℕ) (answer : Stepped) (after : List ℕ) → Step s inbox out answer after → sound_node s ≡ true → sound_node answer.node ≡ true
-  step_stays_sound out answer after p h = ap sound_node p.node ∙ go (step_number s inbox (length out)) refl
+  pub step_stays_sound : (out : List ℕ) (answer : Result Stepped Refusal) (node : Node) (after : List ℕ) → Step s inbox out answer node after
+      → sound_node s ≡ true → sound_node node ≡ true
+  step_stays_sound out answer node after p h = ap sound_node p.node ∙ go (step_number s inbox (length out)) refl
     where
       go : (k : ℕ) → step_number s inbox (length out) ≡ k → sound_node (if_done k (stepped_node s inbox) s) ≡ true
       go zero e = stepped_is_sound h (step_found s inbox out (length out) e).rounds

@@ -2,15 +2,14 @@
 -- what they say.
 use Prim.Native.Nat.{ℕ, zero, suc, ◌+◌, ◌≤◌, ◌<◌}
 use mathlib.Core.Path.{◌≡◌, refl, sym, ap, ap₂, subst, ◌∙◌}
-use mathlib.Core.Logic.{◌≢◌}
-use mathlib.Core.Bool.{Bool, true, false, cond, and-false}
-use mathlib.Core.List.{List, [], ◌∷◌, ◌++◌, map, map-append}
-use native.Mathlib.Numerals.{add-one}
+use mathlib.Core.Bool.{Bool, true, false, cond}
+use mathlib.Core.List.{List, [], ◌∷◌, map}
 use native.Mathlib.Omega.{arith}
-use borrow.Author.Tests.{lt-leb, le-leb, leb-true, lt-ltb, eq-eqb, ne_eqb}
+use borrow.Author.Tests.{eq-eqb, lt-leb, le-leb, leb-true, lt-ltb}
+use Rattle.std.proofs.Common.{Result, Ok, Err}
 use lib.Dec.{leb, eqb}
-use lib.ListN.{length, get_or, take, set}
-use lib.Seq.{take-suc, take-suc-set, take_all}
+use lib.ListN.{length, take, length-take}
+use Rattle.std.proofs.lemmas.List.{get_or-take}
 use Rattle.laws.specs.Parts.{onto}
 use Rattle.laws.proofs.Lent.{onto_length}
 use Rattle.laws.proofs.Tests.{both}
@@ -18,15 +17,16 @@ use Rattle.rules.specs.Sizes.{nodes_most}
 use Rattle.rules.specs.Refusals.{refuse◌unless◌then◌, done, if_done}
 use Rattle.rules.specs.Step.{gather, kept_most, newly, passes_on}
 use Rattle.rules.specs.Vote.{Batch, Vote, passed_on}
+use Rattle.rules.specs.Answers.{number_of}
+use Rattle.rules.specs.declared.refusal.Refusal.{Refusal}
+use Rattle.rules.specs.declared.refusal.Refusal.TheVariants.{Unsound, Phase}
+use Rattle.rules.proofs.Answers.{no_row, refuses, answers, given}
 use Rattle.rules.proofs.Newly.{newly_few}
 use Rattle.rules.proofs.Inbox.{gather_same}
-use Rattle.rules.proofs.Gathered.{each_at}
+use Rattle.rules.proofs.Gathered.{each_at, each_length}
 use Rattle.rules.proofs.Refusals.{row_passed}
 use Rattle.wire.specs.Message.{message_bytes}
 use Rattle.wire.specs.Inbox.{well_cut, unreadable_senders, inbox_number, ReadInbox}
-use Rattle.wire.specs.declared.Heard.{Heard}
-use Rattle.wire.specs.declared.Written.{Written}
-use Rattle.wire.specs.declared.Written.TheVariants.{Length, Refused}
 use Rattle.node.specs.Batches.{kept_as}
 use Rattle.node.specs.State.{kept_at, kept_for, sound_node}
 use Rattle.node.specs.declared.Kept.{Kept}
@@ -34,21 +34,20 @@ use Rattle.node.specs.declared.Node.{Node}
 use Rattle.node.proofs.Sound.{sound_right, sound_is_of, sound_sizes}
 use Rattle.keeping.specs.Keeping.{found_for}
 use Rattle.round.specs.Found.{found_by, Begin, TakeInbox}
+use Rattle.round.proofs.Mapped.{each_mapped}
 use Rattle.keeping.specs.declared.Found.{Found}
-use Rattle.passing.specs.Passing.{AllHeld, EachHeld, found_at, passed_for, passed_below, AllSayable, PassOn}
+use Rattle.passing.specs.Passing.{AllHeld, EachHeld, found_at, passed_for, passed_below, passed_all, AllSayable, PassOn}
 use Rattle.passing.proofs.Outboxes.{new_passed, found_held, not_passed, is_passed}
-use Rattle.step.specs.Step.{taken_by, passed_by, stepped_node, kept_in, primaries_in, in_rounds, step_number, refused_step, Step}
+use Rattle.step.specs.Step.{taken_by, passed_by, stepped_node, kept_in, primaries_in, in_rounds, step_number, Step}
 use Rattle.step.specs.declared.Stepped.{Stepped}
 use Rattle.step.proofs.PassedVotes.{kept_few, passed_by_sayable, new_for, new_of, kept_keepable}
+use mathlib.Core.Bool.{and-false}
 
 -- ---- the primaries of whom something is passed on
 
 module _ (n f r : ℕ) where
   pub last_round : r ≡ f + 1 → 0 ≡ primaries_in n f r
   last_round e = simp (eq-eqb r (f + 1) e)
-
-  pub earlier_round : r ≢ f + 1 → n ≡ primaries_in n f r
-  earlier_round e = simp (ne_eqb r (f + 1) e)
 
   pub primaries_most : primaries_in n f r ≤ n
   primaries_most = go (eqb r (f + 1))
@@ -67,31 +66,7 @@ module _ (n f r : ℕ) where
       go true = refl
       go false = refl
 
--- ---- what is kept of what was found, place by place
-
-pub one_kept : (found : List Found) (kept : List Kept) (p : ℕ) (z : Found) → p < length found → p < length kept → take p kept ≡ kept_in (take p found)
-    → take (p + 1) (set kept p (get_or found p z).kept) ≡ kept_in (take (p + 1) found)
-one_kept found kept p z h l e =
-    ap (λ (j : ℕ). take j (set kept p (get_or found p z).kept)) (add-one p)
-    ∙ take-suc-set kept p (get_or found p z).kept l
-    ∙ ap (λ (x : List Kept). x ++ ((get_or found p z).kept ∷ [])) e
-    ∙ sym (map-append (λ (x : Found). x.kept) (take p found) (get_or found p z ∷ []))
-    ∙ ap kept_in (sym (take-suc found p z h))
-    ∙ ap (λ (j : ℕ). kept_in (take j found)) (sym (add-one p))
-
-pub all_kept : (found : List Found) (kept : List Kept) (p : ℕ) → length found ≤ p → length kept ≤ p → take p kept ≡ kept_in (take p found) → kept ≡ kept_in found
-all_kept found kept p h l e = sym (take_all p kept l) ∙ e ∙ ap kept_in (take_all p found h)
-
-gathered_kept : (g : ℕ → Found) (n : ℕ) → kept_in (gather (λ (p : ℕ). g p ∷ []) n) ≡ gather (λ (p : ℕ). (g p).kept ∷ []) n
-unfolding gather
-gathered_kept g zero = refl
-gathered_kept g (suc n) =
-    map-append (λ (x : Found). x.kept) (gather (λ (p : ℕ). g p ∷ []) n) (g n ∷ []) ∙ ap (λ (l : List Kept). l ++ ((g n).kept ∷ [])) (gathered_kept g n)
-
 -- ---- the answers
-
-pub in_rounds_lem : (s : Node) → 1 ≤ s.phase → s.phase ≤ s.f + 1 → in_rounds s ≡ true
-in_rounds_lem s l h = simp (le-leb _ _ l, le-leb _ _ h)
 
 pub before_rounds : (s : Node) → s.phase < 1 → in_rounds s ≡ false
 before_rounds s l = simp (lt-leb _ _ l)
@@ -99,55 +74,46 @@ before_rounds s l = simp (lt-leb _ _ l)
 pub after_rounds : (s : Node) → s.f + 1 < s.phase → in_rounds s ≡ false
 after_rounds s l = simp (lt-leb _ _ l, and-false)
 
+pub in_rounds_lem : (s : Node) → 1 ≤ s.phase → s.phase ≤ s.f + 1 → in_rounds s ≡ true
+in_rounds_lem s l h = simp (le-leb _ _ l, le-leb _ _ h)
+
 pub rounds_told : (s : Node) → in_rounds s ≡ true → s.phase ≤ s.f + 1
 rounds_told s h = leb-true s.phase (s.f + 1) (both (leb 1 s.phase) (leb s.phase (s.f + 1)) h).1
 
 module _ (s : Node) (inbox out : List ℕ) where
-  pub unsound : sound_node s ≡ false → Step s inbox out (refused_step 2 s) out
+  pub unsound : sound_node s ≡ false → Step s inbox out (Err Unsound) s out
   unfolding step_number
-  unsound h = record { number = simp h; size = simp h; unreadable = simp h; node = simp h; outbox_is = simp h }
+  unsound h = record { answers = refuses (simp h); node = simp h; outbox_is = simp h }
 
   module _ (h : sound_node s ≡ true) where
-    pub out_of_rounds : in_rounds s ≡ false → Step s inbox out (refused_step 3 s) out
+    pub out_of_rounds : in_rounds s ≡ false → Step s inbox out (Err Phase) s out
     unfolding step_number
-    out_of_rounds r = record { number = simp (h, r); size = simp (h, r); unreadable = simp (h, r); node = simp (h, r); outbox_is = simp (h, r) }
+    out_of_rounds r = record { answers = refuses (simp (h, r)); node = simp (h, r); outbox_is = simp (h, r) }
 
     module _ (r : in_rounds s ≡ true) where
-      pub ill_cut : well_cut s.n inbox ≡ false → Step s inbox out (refused_step 4 s) out
+      pub ill_cut : (x : Refusal) → (well_cut s.n inbox ≡ false) × (4 ≡ number_of x) → Step s inbox out (Err x) s out
       unfolding step_number
-      ill_cut w = record { number = simp (h, r, w); size = simp (h, r, w); unreadable = simp (h, r, w); node = simp (h, r, w); outbox_is = simp (h, r, w) }
+      ill_cut x w = record { answers = refuses (simp (h, r, w.0) w.1); node = simp (h, r, w.0); outbox_is = simp (h, r, w.0) }
 
-      module _ (w : well_cut s.n inbox ≡ true) where
-        module _ (vs : List Vote) (e : vs ≡ passed_by s inbox) (written : Written) (after : List ℕ) (p : PassOn vs out written after) where
-          passed : PassOn (passed_by s inbox) out written after
-          passed = subst (λ (us : List Vote). PassOn us out written after) e p
+      module _ (w : well_cut s.n inbox ≡ true) (vs : List Vote) (e : vs ≡ passed_by s inbox) (after : List ℕ) where
+        pub no_room : (x : Refusal) → PassOn vs out (Err x) after → Step s inbox out (Err x) s after
+        unfolding step_number
+        no_room x p =
+            let f = not_passed (passed_by s inbox) out x after (subst (λ (us : List Vote). PassOn us out (Err x) after) e p) in
+            let t = lt-leb (length (message_bytes (passed_by s inbox))) (length out) f.0 in
+            record { answers = refuses (simp (h, r, w, t) f.1); node = simp (h, r, w, t); outbox_is = simp (h, r, w, t) f.2 }
 
-          pub no_room : (k : ℕ) → written ≡ Refused k → (answer : Stepped) → answer ≡ refused_step 9 s → Step s inbox out answer after
-          unfolding step_number
-          no_room k q answer a =
-              let f = not_passed (passed_by s inbox) out written after passed k q in
-              let t = lt-leb (length (message_bytes (passed_by s inbox))) (length out) f.0 in
-              subst (λ (x : Stepped). Step s inbox out x after) (sym a) (record {
-                number = simp (h, r, w, t);
-                size = simp (h, r, w, t);
-                unreadable = simp (h, r, w, t);
-                node = simp (h, r, w, t);
-                outbox_is = simp (h, r, w, t) f.1;
-              })
-
-          pub is_stepped : (k : ℕ) → written ≡ Length k → (answer : Stepped) → answer.number ≡ 0 → answer.length ≡ k
-              → answer.unreadable ≡ unreadable_senders s.n s.me inbox → answer.node ≡ stepped_node s inbox → Step s inbox out answer after
-          unfolding step_number
-          is_stepped k q answer a b u v =
-              let f = is_passed (passed_by s inbox) out written after passed k q in
-              let t = le-leb (length (message_bytes (passed_by s inbox))) (length out) f.0 in
-              record {
-                number = simp (h, r, w, t) a;
-                size = simp (h, r, w, t) (b ∙ f.1);
-                unreadable = simp (h, r, w, t) u;
-                node = simp (h, r, w, t) v;
-                outbox_is = simp (h, r, w, t) f.2;
-              }
+        pub is_stepped : (k u : ℕ) (node : Node) → PassOn vs out (Ok k) after → u ≡ unreadable_senders s.n s.me inbox → node ≡ stepped_node s inbox
+            → Step s inbox out (Ok (record { length = k; unreadable = u })) node after
+        unfolding step_number
+        is_stepped k u node p told v =
+            let f = is_passed (passed_by s inbox) out k after (subst (λ (us : List Vote). PassOn us out (Ok k) after) e p) in
+            let t = le-leb (length (message_bytes (passed_by s inbox))) (length out) f.0 in
+            record {
+              answers = answers (simp (h, r, w, t)) (λ i. record { length = f.1 i; unreadable = told i });
+              node = simp (h, r, w, t) v;
+              outbox_is = simp (h, r, w, t) f.2;
+            }
 
   -- what a step that is done has found
   pub record CanStep (room : ℕ) : Type 0 where
@@ -166,8 +132,8 @@ module _ (s : Node) (inbox out : List ℕ) where
       record { sound = a.0; rounds = b.0; cut = c.0; fits = leb-true _ _ e.0 }
 
   -- the outbox keeps its length
-  pub step_length : (answer : Stepped) (after : List ℕ) → Step s inbox out answer after → length after ≡ length out
-  step_length answer after p = ap length p.outbox_is ∙ go (step_number s inbox (length out)) refl
+  pub step_length : (answer : Result Stepped Refusal) (node : Node) (after : List ℕ) → Step s inbox out answer node after → length after ≡ length out
+  step_length answer node after p = ap length p.outbox_is ∙ go (step_number s inbox (length out)) refl
     where
       go : (k : ℕ) → step_number s inbox (length out) ≡ k → length (if_done k (onto (message_bytes (passed_by s inbox)) out) out) ≡ length out
       go zero e = onto_length (message_bytes (passed_by s inbox)) out (step_found (length out) e).fits
@@ -175,12 +141,12 @@ module _ (s : Node) (inbox out : List ℕ) where
 
 -- ---- what a sound node finds
 
--- what is passed on of what was found, for the primaries below m, is what the step passes on
-pub record Passes (s : Node) (inbox : List ℕ) (found : List Found) (m : ℕ) : Type 0 where
-  pub most : m ≤ nodes_most
+-- what is passed on of what was found is what the step passes on
+pub record Passes (s : Node) (inbox : List ℕ) (found : List Found) : Type 0 where
+  pub most : length found ≤ nodes_most
   pub held : EachHeld found
-  pub says : passed_below s.me s.kept found m ≡ passed_by s inbox
-  pub sayable : AllSayable s.n (passed_below s.me s.kept found m)
+  pub says : passed_all s found ≡ passed_by s inbox
+  pub sayable : AllSayable s.n (passed_all s found)
 
 module _ (s : Node) (inbox : List ℕ) (h : sound_node s ≡ true) where
   kept_is : s.kept ≡ gather (λ (p : ℕ). kept_as (kept_for s p) ∷ []) nodes_most
@@ -191,20 +157,19 @@ module _ (s : Node) (inbox : List ℕ) (h : sound_node s ≡ true) where
   unfolding inbox_number
   cut_number = simp ((sound_sizes s h).nodes, lt-ltb _ _ (sound_sizes s h).node)
 
-  module _ (heard : Heard) (t : ReadInbox s.n s.me inbox heard) where
-    pub cut_ill : heard.number ≢ 0 → well_cut s.n inbox ≡ false
-    cut_ill ne = go (well_cut s.n inbox) refl
-      where
-        go : (b : Bool) → well_cut s.n inbox ≡ b → well_cut s.n inbox ≡ false
-        go true e = absurd (ne (t.number ∙ cut_number ∙ simp e))
-        go false e = e
+  pub cut_ill : (x : Refusal) → ReadInbox s.n s.me inbox (Err x) → (well_cut s.n inbox ≡ false) × (4 ≡ number_of x)
+  cut_ill x t = go (well_cut s.n inbox) refl (t.number_is ∙ cut_number)
+    where
+      go : (b : Bool) → well_cut s.n inbox ≡ b → number_of x ≡ (refuse 4 unless b then done) → (well_cut s.n inbox ≡ false) × (4 ≡ number_of x)
+      go true e k = no_row x k
+      go false e k = (e, sym k)
 
-    pub cut_well : heard.number ≡ 0 → (well_cut s.n inbox ≡ true) × (heard.unreadable ≡ unreadable_senders s.n s.me inbox)
-    cut_well z = go (well_cut s.n inbox) refl
-      where
-        go : (b : Bool) → well_cut s.n inbox ≡ b → (well_cut s.n inbox ≡ true) × (heard.unreadable ≡ unreadable_senders s.n s.me inbox)
-        go true e = (e, t.unreadable ∙ simp (cut_number, e))
-        go false e = let x : ◌≡◌ {A = ℕ} 0 4 = sym z ∙ t.number ∙ cut_number ∙ simp e in absurd (omega arith)
+  pub cut_well : (u : ℕ) → ReadInbox s.n s.me inbox (Ok u) → (well_cut s.n inbox ≡ true) × (u ≡ unreadable_senders s.n s.me inbox)
+  cut_well u t = let g = given t in (go (well_cut s.n inbox) refl (sym cut_number ∙ g.0), g.1)
+    where
+      go : (b : Bool) → well_cut s.n inbox ≡ b → (refuse 4 unless b then done) ≡ done → well_cut s.n inbox ≡ true
+      go true e k = e
+      go false e k = absurd (omega arith)
 
   module _ (begun found : List Found) (u : ℕ) (w : well_cut s.n inbox ≡ true) (e : u ≡ unreadable_senders s.n s.me inbox) (b : Begin s.kept begun)
       (t : TakeInbox s.n s.me s.phase begun inbox u found) where
@@ -214,8 +179,12 @@ module _ (s : Node) (inbox : List ℕ) (h : sound_node s ≡ true) where
     found_at_lem : (p : ℕ) → p < nodes_most → found_at found p ≡ found_for (kept_for s p) (new_for s inbox p)
     found_at_lem p l = ap (λ (x : List Found). found_at x p) found_is ∙ each_at (λ (q : ℕ). found_for (kept_for s q) (new_for s inbox q)) _ nodes_most p l
 
+    found_size : length found ≡ nodes_most
+    found_size = ap length found_is ∙ each_length (λ (p : ℕ). found_for (kept_for s p) (new_for s inbox p)) nodes_most
+
     each_held : EachHeld found
-    each_held p l =
+    each_held p k =
+        let l : p < nodes_most = omega (arith, found_size) in
         subst AllHeld (sym (found_at_lem p l))
         (found_held (kept_for s p) (new_for s inbox p) (newly_few kept_most s.phase p (kept_for s p) (taken_by s inbox) (kept_few s p))
         (kept_keepable s inbox p ((sound_right s h).keeps.keepable p l)).each)
@@ -229,17 +198,20 @@ module _ (s : Node) (inbox : List ℕ) (h : sound_node s ≡ true) where
         ap₂ (passed_for s.me p) (old_count p l) (found_at_lem p l)
         ∙ new_passed s.me p (kept_for s p) (new_for s inbox p) (newly_few kept_most s.phase p (kept_for s p) (taken_by s inbox) (kept_few s p)) (new_of s inbox p)
 
-    pub passes : (m : ℕ) → m ≡ primaries_in s.n s.f s.phase → Passes s inbox found m
+    pub passes : (m : ℕ) → m ≡ primaries_in s.n s.f s.phase → Passes s inbox (take m found)
     passes m e =
         let most : m ≤ nodes_most = omega (arith, primaries_most s.n s.f s.phase, (sound_sizes s h).most) in
-        let says : passed_below s.me s.kept found m ≡ passed_by s inbox =
-        gather_same (λ (p : ℕ). passed_for s.me p (kept_at s.kept p).count (found_at found p)) (λ (p : ℕ). map (passed_on s.me) (new_for s inbox p)) m
-        (λ p l. passed_at p (omega arith))
+        let size : length (take m found) ≡ m = omega (arith, length-take m found, found_size) in
+        let first : (p : ℕ) → p < m → found_at (take m found) p ≡ found_at found p = λ p l. get_or-take m found p _ l in
+        let says : passed_all s (take m found) ≡ passed_by s inbox =
+        ap (passed_below s.me s.kept (take m found)) size
+        ∙ gather_same (λ (p : ℕ). passed_for s.me p (kept_at s.kept p).count (found_at (take m found) p)) (λ (p : ℕ). map (passed_on s.me) (new_for s inbox p)) m
+        (λ p l. ap (passed_for s.me p (kept_at s.kept p).count) (first p l) ∙ passed_at p (omega arith))
         ∙ ap (gather (λ (p : ℕ). map (passed_on s.me) (new_for s inbox p))) e
         ∙ passes_gathered s.n s.f s.phase s.me (kept_for s) (taken_by s inbox) in
         record {
-          most = most;
-          held = each_held;
+          most = omega arith;
+          held = λ p l. subst AllHeld (sym (first p (omega arith))) (each_held p (omega (arith, found_size)));
           says = says;
           sayable = subst (AllSayable s.n) (sym says) (passed_by_sayable s inbox (sound_sizes s h).node);
         }
@@ -248,4 +220,4 @@ module _ (s : Node) (inbox : List ℕ) (h : sound_node s ≡ true) where
         → record { n = s.n; f = s.f; me = s.me; phase = s.phase + 1; own = s.own; kept = kept } ≡ stepped_node s inbox
     next_node kept k =
         let g : ℕ → Found = λ p. found_for (kept_for s p) (newly kept_most s.phase p (kept_for s p) (taken_by s inbox)) in
-        ap (λ (x : List Kept). record { n = s.n; f = s.f; me = s.me; phase = s.phase + 1; own = s.own; kept = x }) (k ∙ ap kept_in found_is ∙ gathered_kept g nodes_most)
+        ap (λ (x : List Kept). record { n = s.n; f = s.f; me = s.me; phase = s.phase + 1; own = s.own; kept = x }) (k ∙ ap kept_in found_is ∙ each_mapped (λ (x : Found). x.kept) g nodes_most)

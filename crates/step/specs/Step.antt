@@ -1,10 +1,12 @@
 -- "A step in round r reads the inbox by sender, then by record. It passes over its own slot and every record of which it is itself the primary. [..] The
 -- outbox is ordered by primary, then as kept; each record is written into the rest of the outbox, after the one before. In round f + 1 nothing is written.
 -- The phase goes up by one. The answer also has a mask of the senders whose message was unreadable, never the own bit."
-use Rattle.std.specs.Prelude.{ℕ, ◌+◌, ◌≡◌, Bool, cond, ◌&&◌, List, [], ◌∷◌, map, eqb, leb, length}
+use Rattle.std.specs.Prelude.{ℕ, ◌+◌, ◌≡◌, Bool, cond, ◌&&◌, List, [], ◌∷◌, map, eqb, leb, length, Result}
 use Rattle.laws.specs.Parts.{onto}
 use Rattle.rules.specs.Sizes.{nodes_most}
 use Rattle.rules.specs.Refusals.{refuse◌unless◌then◌, done, if_done}
+use Rattle.rules.specs.Answers.{Answers}
+use Rattle.rules.specs.declared.refusal.Refusal.{Refusal}
 use Rattle.rules.specs.Vote.{Vote}
 use Rattle.rules.specs.Step.{gather, kept_most, taken_up, kept_after, passes_on}
 use Rattle.wire.specs.Message.{message_bytes}
@@ -60,13 +62,12 @@ step_number s inbox room =
     refuse 9 unless leb (length (message_bytes (passed_by s inbox))) room then
     done
 
--- a refusal leaves the node as it is
-abbrev pub refused_step : ℕ → Node → Stepped
-refused_step k s = record { number = k; length = 0; unreadable = 0; node = s }
+-- what is answered of a step that is done
+abbrev pub stepped : Node → List ℕ → Stepped
+stepped s inbox = record { length = length (message_bytes (passed_by s inbox)); unreadable = unreadable_senders s.n s.me inbox }
 
-pub record Step (s : Node) (inbox outbox : List ℕ) (answer : Stepped) (after : List ℕ) : Type 0 where
-  pub number : answer.number ≡ step_number s inbox (length outbox)
-  pub size : answer.length ≡ if_done (step_number s inbox (length outbox)) (length (message_bytes (passed_by s inbox))) 0
-  pub unreadable : answer.unreadable ≡ if_done (step_number s inbox (length outbox)) (unreadable_senders s.n s.me inbox) 0
-  pub node : answer.node ≡ if_done (step_number s inbox (length outbox)) (stepped_node s inbox) s
+-- a refusal leaves the node and the outbox as they are
+pub record Step (s : Node) (inbox outbox : List ℕ) (answer : Result Stepped Refusal) (node_after : Node) (after : List ℕ) : Type 0 where
+  pub answers : Answers (step_number s inbox (length outbox)) (stepped s inbox) answer
+  pub node : node_after ≡ if_done (step_number s inbox (length outbox)) (stepped_node s inbox) s
   pub outbox_is : after ≡ if_done (step_number s inbox (length outbox)) (onto (message_bytes (passed_by s inbox)) outbox) outbox

@@ -3,15 +3,11 @@
 
 mod stepping;
 
-use node::Node;
 pub use stepping::step;
 
-// A refusal's number or 0, the length of what the outbox holds, the senders whose message was unreadable, the node afterwards.
-#[repr(C)]
-#[derive(Clone, Copy)]
+// The length of what the outbox holds, and the senders whose message was unreadable.
+#[derive(Clone, Copy, Debug, PartialEq, Eq)]
 pub struct Stepped {
-    pub number: u8,
     pub length: usize,
     pub unreadable: u16,
-    pub node: Node,
 }

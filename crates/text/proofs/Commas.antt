@@ -1,59 +1,40 @@
 -- Lists by commas: the items read and the parts that are left decide what the whole list is.
+use Rattle.std.specs.Prelude.{MatchOption, Option, Some, None}
+use Rattle.std.specs.Bool.{then_some}
 use Prim.Native.Nat.{◌+◌, ◌-◌, ◌<◌, ◌≤◌, suc, ℕ}
 use mathlib.Core.Bool.{Bool, ◌&&◌, ◌||◌, and-false, cond, false, true}
-use mathlib.Core.List.{List, [], ◌++◌, ◌∷◌, append-nil}
-use mathlib.Core.Option.{Option, none, some}
+use mathlib.Core.List.{List, [], ◌++◌, ◌∷◌}
 use mathlib.Core.Path.{◌∙◌, ◌≡◌, ap, refl, sym}
 use native.Mathlib.Omega.{arith}
-use borrow.Author.Tests.{eq-eqb, le-leb, le-ltb, lt-leb, lt-ltb, ltb-false, ltb-true, ne_eqb}
-use lib.Dec.{eqb, eqb-suc-zero, leb-suc-suc, ltb}
-use lib.ListN.{drop, length, length-append, length-drop, replicate, set, take}
-use lib.Seq.{append_snoc, drop-drop, set_at}
+use borrow.Author.Tests.{eq-eqb, le-leb, lt-leb, ne_eqb}
+use lib.Dec.{eqb, eqb-suc-zero, ltb}
+use lib.ListN.{drop, get_or, length, length-append, replicate, set, take}
+use lib.Seq.{append_snoc, set_at, take-length}
+use Rattle.std.specs.List.{onto_first, slice_split}
+use Rattle.std.proofs.lemmas.List.{drop_more, take-append-drop, take_more}
 use Rattle.laws.specs.Masks.{count}
 use Rattle.laws.specs.Order.{ascends, ascends_from}
 use Rattle.rules.specs.Sizes.{batch_most, is_batch}
 use Rattle.text.specs.Lists.{ahead, and_item, below_as, checked, item_of, items_of, list_of, listed_as, split}
-use Rattle.text.specs.Numbers.{number_in, word_most}
-use Rattle.text.specs.Places.{comma, place_of}
+use Rattle.text.specs.Places.{comma}
 use Rattle.text.specs.declared.Kind.{Kind}
-use Rattle.text.specs.declared.Kind.TheVariants.{Below}
-use Rattle.text.specs.declared.Listed.{Listed}
-use Rattle.text.specs.declared.Number.{Number}
-use Rattle.text.specs.declared.Number.TheVariants.{NoNumber, Value}
 
--- ---- the parts between commas
+-- ---- the parts between commas, by the library's word
 
-split_case : (c b : ℕ) (s : List ℕ) (t : Bool) → split c s ≡ take (place_of c s) s ∷ (cond (ltb (place_of c s) (length s)) (split c (drop
-    (place_of c s + 1) s)) [])
-    → cond t ([] ∷ split c s) (ahead b (split c s))
-    ≡ take (cond t 0 (suc (place_of c s))) (b ∷ s) ∷ (cond (ltb (cond t 0 (suc (place_of c s))) (suc (length s))) (split c (drop (cond t 0 (suc
-    (place_of c s)) + 1) (b ∷ s))) [])
+ahead_is : (b : ℕ) (ps : List (List ℕ)) → onto_first b ps ≡ ahead b ps
 unfolding ahead
-split_case c b s true e = let o : 0 < suc (length s) = omega arith in simp (lt-ltb 0 (suc (length s)) o)
-split_case c b s false e =
-    let p : ℕ = place_of c s in
-    let q : suc p + 1 ≡ suc (p + 1) = omega arith in
-    ap (ahead b) e ∙ ap (λ (u : Bool). (b ∷ take p s) ∷ (cond u (split c (drop (p + 1) s)) [])) (lt_shift p (length s))
-    ∙ ap (λ (k : ℕ). (b ∷ take p s) ∷ (cond (ltb (suc p) (suc (length s))) (split c (drop k (b ∷ s))) [])) (sym q)
-  where
-    lt_shift : (p l : ℕ) → ltb p l ≡ ltb (suc p) (suc l)
-    lt_shift p l = sym (leb-suc-suc (suc p) l)
+ahead_is b [] = refl
+ahead_is b (p ∷ ps) = refl
 
-split_is : (c : ℕ) (s : List ℕ) → split c s ≡ take (place_of c s) s ∷ (cond (ltb (place_of c s) (length s)) (split c (drop (place_of c s + 1) s)) [])
-unfolding split place_of
-split_is c [] = refl
-split_is c (b ∷ s) = split_case c b s (eqb b c) (split_is c s)
+abbrev pub parts_of : List ℕ → List (List ℕ)
+parts_of s = slice_split (λ (b : ℕ). eqb b comma) s
 
-module _ (c k : ℕ) (s : List ℕ) (e : k ≡ place_of c s) where
-  split_more : k < length s → split c s ≡ take k s ∷ split c (drop (k + 1) s)
-  split_more h =
-      let o : place_of c s < length s = omega arith in
-      split_is c s ∙ simp (lt-ltb _ _ o) (ap (λ (j : ℕ). take j s ∷ split c (drop (j + 1) s)) (sym e))
-
-  split_last : length s ≤ k → split c s ≡ take k s ∷ []
-  split_last h =
-      let o : length s ≤ place_of c s = omega arith in
-      split_is c s ∙ simp (le-ltb _ _ o) (ap (λ (j : ℕ). take j s ∷ []) (sym e))
+split_is : (s : List ℕ) → parts_of s ≡ split comma s
+unfolding split
+split_is [] = refl
+split_is (b ∷ s) =
+    ap (λ (ps : List (List ℕ)). cond (eqb b comma) ([] ∷ ps) (onto_first b ps)) (split_is s)
+    ∙ ap (λ (qs : List (List ℕ)). cond (eqb b comma) ([] ∷ split comma s) qs) (ahead_is b (split comma s))
 
 -- ---- ascending
 
@@ -83,169 +64,152 @@ last_snoc d (y ∷ xs) x = last_snoc y xs x
 
 -- ---- numbers below n
 
-module _ (n : ℕ) (s : List ℕ) where
-  pub below_none : number_in word_most s ≡ NoNumber → item_of (Below n) s ≡ NoNumber
-  unfolding item_of below_as
-  below_none e = simp e
-
-  module _ (v : ℕ) (e : number_in word_most s ≡ Value v) where
-    pub below_over : n ≤ v → item_of (Below n) s ≡ NoNumber
-    unfolding item_of below_as
-    below_over h = simp (e, le-ltb _ _ h)
-
-    pub below_in : v < n → item_of (Below n) s ≡ Value v
-    unfolding item_of below_as
-    below_in h = simp (e, lt-ltb _ _ h)
+-- what a filter keeps of a number that was read, where its test is that the number is below n
+pub below_kept : (n : ℕ) (Gives : ℕ → Bool → Type 0) → ((v : ℕ) (b : Bool) → Gives v b → b ≡ ltb v n) → (read kept : Option ℕ)
+    → MatchOption read (kept ≡ None) (λ v. (b : Bool) × Gives v b × (kept ≡ then_some b v)) → kept ≡ below_as n read
+unfolding below_as
+below_kept n Gives test None kept e = e
+below_kept n Gives test (Some v) kept (b, gives, e) = e ∙ go b ∙ ap (λ (t : Bool). cond t (Some v) None) (test v b gives)
+  where
+    go : (t : Bool) → then_some t v ≡ cond t (Some v) None
+    go true = refl
+    go false = refl
 
 -- ---- the answer, once some items are read
 
 abbrev front : List ℕ → Option (List ℕ) → Option (List ℕ)
-front xs none = none
-front xs (some ys) = some (xs ++ ys)
+front xs None = None
+front xs (Some ys) = Some (xs ++ ys)
 
 front_none : (o : Option (List ℕ)) → front [] o ≡ o
-front_none none = refl
-front_none (some ys) = refl
-
-front_item : (xs : List ℕ) (x : ℕ) (o : Option (List ℕ)) → front xs (and_item (Value x) o) ≡ front (xs ++ (x ∷ [])) o
-unfolding and_item
-front_item xs x none = refl
-front_item xs x (some ys) = ap some (sym (append_snoc xs x ys))
+front_none None = refl
+front_none (Some ys) = refl
 
 unordered_case : (xs : List ℕ) (x : ℕ) (o : Option (List ℕ)) → (eqb (length xs) 0 || ltb (last_from 0 xs) x) ≡ false
-    → checked (front xs (and_item (Value x) o)) ≡ none
+    → checked (front xs (and_item (Some x) o)) ≡ None
 unfolding and_item checked is_batch
-unordered_case xs x none e = refl
-unordered_case xs x (some ys) e =
+unordered_case xs x None e = refl
+unordered_case xs x (Some ys) e =
     let f : ascends (xs ++ (x ∷ ys)) ≡ false = seam xs x ys ∙ simp (e, and-false) in
     simp (f, and-false)
 
-full_case : (xs : List ℕ) (x : Number) (o : Option (List ℕ)) → length xs ≡ batch_most → checked (front xs (and_item x o)) ≡ none
+full_case : (xs : List ℕ) (x : Option ℕ) (o : Option (List ℕ)) → length xs ≡ batch_most → checked (front xs (and_item x o)) ≡ None
 unfolding and_item checked is_batch
-full_case xs NoNumber o e = refl
-full_case xs (Value x) none e = refl
-full_case xs (Value x) (some ys) e =
+full_case xs None o e = refl
+full_case xs (Some x) None e = refl
+full_case xs (Some x) (Some ys) e =
     let l : batch_most < length (xs ++ (x ∷ ys)) = omega (arith, length-append xs (x ∷ ys)) in
     simp (lt-leb _ _ l)
 
--- what the loop keeps: the items read, and the answer in terms of what is left
-pub record Going (kind : Kind) (s items : List ℕ) (count last at : ℕ) : Type 0 where
+-- the items of parts that are joined
+joined : Option (List ℕ) → Option (List ℕ) → Option (List ℕ)
+joined None o = None
+joined (Some xs) o = front xs o
+
+and_joined : (v : Option ℕ) (a b : Option (List ℕ)) → and_item v (joined a b) ≡ joined (and_item v a) b
+unfolding and_item joined
+and_joined None a b = refl
+and_joined (Some x) None b = refl
+and_joined (Some x) (Some ys) None = refl
+and_joined (Some x) (Some ys) (Some zs) = refl
+
+items_joined : (kind : Kind) (ps qs : List (List ℕ)) → items_of kind (ps ++ qs) ≡ joined (items_of kind ps) (items_of kind qs)
+unfolding items_of joined
+items_joined kind [] qs = sym (front_none (items_of kind qs))
+items_joined kind (p ∷ ps) qs =
+    ap (and_item (item_of kind p)) (items_joined kind ps qs) ∙ and_joined (item_of kind p) (items_of kind ps) (items_of kind qs)
+
+-- what the loop keeps: the items of the first n parts, ascending, and the places not used are zero
+pub record Going (kind : Kind) (s items : List ℕ) (count last n : ℕ) : Type 0 where
   pub xs : List ℕ
   pub shape : items ≡ xs ++ replicate (batch_most - count) 0
   pub size : length xs ≡ count
   pub few : count ≤ batch_most
-  pub here : at ≤ length s
   pub order : ascends xs ≡ true
   pub tip : last ≡ last_from 0 xs
-  pub left : list_of kind s ≡ checked (front xs (items_of kind (split comma (drop at s))))
+  pub read : items_of kind (take n (parts_of s)) ≡ Some xs
 
-pub going_start : (kind : Kind) (s : List ℕ) → (length s ≡ 0 → ⊥) → Going kind s (replicate batch_most 0) 0 0 0
-unfolding list_of
-going_start kind s h = record {
-  xs = [];
-  shape = refl;
-  size = refl;
-  few = omega arith;
-  here = omega arith;
-  order = refl;
-  tip = refl;
-  left = simp (ne_eqb _ _ h) (ap checked (sym (front_none (items_of kind (split comma s)))));
-}
+pub going_start : (kind : Kind) (s : List ℕ) → Going kind s (replicate batch_most 0) 0 0 0
+unfolding items_of
+going_start kind s = record { xs = []; shape = refl; size = refl; few = omega arith; order = refl; tip = refl; read = refl }
 
-pub no_items : (kind : Kind) (s : List ℕ) → length s ≡ 0 → list_of kind s ≡ some []
+pub no_items : (kind : Kind) (s : List ℕ) → length s ≡ 0 → list_of kind s ≡ Some []
 unfolding list_of
 no_items kind s h = simp (eq-eqb _ _ h)
 
-pub listed_is : (zs arr : List ℕ) (n : ℕ) → length zs ≡ n → arr ≡ zs ++ replicate (batch_most - n) 0
-    → ◌≡◌ {A = Listed} (record { good = true; count = n; items = arr }) (listed_as (some zs))
+some_items : (kind : Kind) (s : List ℕ) → (length s ≡ 0 → ⊥) → list_of kind s ≡ checked (items_of kind (parts_of s))
+unfolding list_of
+some_items kind s h = simp (ne_eqb _ _ h) (ap (λ (ps : List (List ℕ)). checked (items_of kind ps)) (sym (split_is s)))
+
+pub listed_is : (zs items : List ℕ) (n : ℕ) → length zs ≡ n → items ≡ zs ++ replicate (batch_most - n) 0
+    → Some (record { count = n; entries = items }) ≡ listed_as (Some zs)
 unfolding listed_as
-listed_is zs arr n e f = λ i. record { good = true; count = sym e i; items = (f ∙ ap (λ (k : ℕ). zs ++ replicate (batch_most - k) 0) (sym e)) i }
+listed_is zs items n e f = λ i. Some (record { count = sym e i; entries = (f ∙ ap (λ (k : ℕ). zs ++ replicate (batch_most - k) 0) (sym e)) i })
 
--- one turn: `part` is what is left, k where its first comma stands, and its first item is v
-module _ (kind : Kind) (s items : List ℕ) (count last at : ℕ) (g : Going kind s items count last at) (part : List ℕ) (pe : part ≡ drop at s)
-    (k : ℕ) (ke : k ≡ place_of comma part) where
-  rest_of : Option (List ℕ)
-  rest_of = cond (ltb k (length part)) (items_of kind (split comma (drop (k + 1) part))) (some [])
+pub none_listed : {o : Option (List ℕ)} → o ≡ None → None ≡ listed_as o
+unfolding listed_as
+none_listed e = ap listed_as (sym e)
 
-  cut_case : (t : Bool) → ltb k (length part) ≡ t → items_of kind (split comma part) ≡ and_item (item_of kind (take k part)) (cond t (items_of kind
-      (split comma (drop (k + 1) part))) (some []))
-  unfolding items_of
-  cut_case true h = ap (items_of kind) (split_more comma k part ke (ltb-true _ _ h))
-  cut_case false h = ap (items_of kind) (split_last comma k part ke (ltb-false _ _ h))
+-- one turn, at the part p, where there are some bytes
+module _ (kind : Kind) (s items : List ℕ) (count last n : ℕ) (g : Going kind s items count last n) (h : length s ≡ 0 → ⊥) (p : List ℕ)
+    (there : n < length (parts_of s)) (pe : p ≡ get_or (parts_of s) n p) where
+  ps : List (List ℕ)
+  ps = parts_of s
 
-  cut : list_of kind s ≡ checked (front g.xs (and_item (item_of kind (take k part)) rest_of))
-  unfolding rest_of
+  after : List (List ℕ)
+  after = drop (n + 1) ps
+
+  cut : list_of kind s ≡ checked (front g.xs (and_item (item_of kind p) (items_of kind after)))
+  unfolding items_of joined after ps
   cut =
-      g.left ∙ ap (λ (l : List ℕ). checked (front g.xs (items_of kind (split comma l)))) (sym pe)
-      ∙ ap (λ (o : Option (List ℕ)). checked (front g.xs o)) (cut_case (ltb k (length part)) refl)
+      some_items kind s h
+      ∙ ap (λ (qs : List (List ℕ)). checked (items_of kind qs)) (sym (take-append-drop n (parts_of s)))
+      ∙ ap checked (items_joined kind (take n (parts_of s)) (drop n (parts_of s)))
+      ∙ ap (λ (o : Option (List ℕ)). checked (joined o (items_of kind (drop n (parts_of s))))) g.read
+      ∙ ap (λ (qs : List (List ℕ)). checked (front g.xs (items_of kind qs)))
+      (drop_more (parts_of s) n p there ∙ ap (λ (q : List ℕ). q ∷ drop (n + 1) (parts_of s)) (sym pe))
 
-  pub item_bad : item_of kind (take k part) ≡ NoNumber → list_of kind s ≡ none
+  pub item_bad : item_of kind p ≡ None → list_of kind s ≡ None
   unfolding and_item checked
-  item_bad e = cut ∙ ap (λ (v : Number). checked (front g.xs (and_item v rest_of))) e
+  item_bad e = cut ∙ ap (λ (v : Option ℕ). checked (front g.xs (and_item v (items_of kind after)))) e
 
-  module _ (x : ℕ) (xe : item_of kind (take k part) ≡ Value x) where
-    cut_value : list_of kind s ≡ checked (front g.xs (and_item (Value x) rest_of))
-    cut_value = cut ∙ ap (λ (v : Number). checked (front g.xs (and_item v rest_of))) xe
+  pub item_full : count ≡ batch_most → list_of kind s ≡ None
+  item_full e = cut ∙ full_case g.xs (item_of kind p) (items_of kind after) (g.size ∙ e)
 
-    pub item_low : (eqb count 0 || ltb last x) ≡ false → list_of kind s ≡ none
+  module _ (x : ℕ) (xe : item_of kind p ≡ Some x) where
+    pub item_low : (eqb count 0 || ltb last x) ≡ false → list_of kind s ≡ None
     item_low e =
         let f : (eqb (length g.xs) 0 || ltb (last_from 0 g.xs) x) ≡ false = rw (g.size, ← g.tip) e in
-        cut_value ∙ unordered_case g.xs x rest_of f
+        cut ∙ ap (λ (v : Option ℕ). checked (front g.xs (and_item v (items_of kind after)))) xe ∙ unordered_case g.xs x (items_of kind after) f
 
-    module _ (o : (eqb count 0 || ltb last x) ≡ true) (room : count < batch_most) where
-      zs : List ℕ
-      zs = g.xs ++ (x ∷ [])
-
-      zs_size : length zs ≡ count + 1
-      unfolding zs
-      zs_size = let e = g.size in omega (arith, length-append g.xs (x ∷ []))
-
-      zs_order : ascends zs ≡ true
-      unfolding zs
-      zs_order =
-          let f : (eqb (length g.xs) 0 || ltb (last_from 0 g.xs) x) ≡ true = rw (g.size, ← g.tip) o in
-          seam g.xs x [] ∙ simp (g.order, f)
-
-      zs_shape : set items count x ≡ zs ++ replicate (batch_most - (count + 1)) 0
-      unfolding zs
-      zs_shape =
-          let n : batch_most - count ≡ suc (batch_most - (count + 1)) = omega arith in
-          ap (λ (l : List ℕ). set l count x) (g.shape ∙ ap (λ (j : ℕ). g.xs ++ replicate j 0) n)
+    pub item_next : count < batch_most → (eqb count 0 || ltb last x) ≡ true → Going kind s (set items count x) (count + 1) x (n + 1)
+    unfolding items_of joined and_item ps
+    item_next room o = record {
+      xs = g.xs ++ (x ∷ []);
+      shape =
+          let m : batch_most - count ≡ suc (batch_most - (count + 1)) = omega arith in
+          ap (λ (l : List ℕ). set l count x) (g.shape ∙ ap (λ (j : ℕ). g.xs ++ replicate j 0) m)
           ∙ set_at g.xs 0 (replicate (batch_most - (count + 1)) 0) x count g.size
-          ∙ sym (append_snoc g.xs x (replicate (batch_most - (count + 1)) 0))
+          ∙ sym (append_snoc g.xs x (replicate (batch_most - (count + 1)) 0));
+      size = let e = g.size in omega (arith, length-append g.xs (x ∷ []));
+      few = omega arith;
+      order =
+          let f : (eqb (length g.xs) 0 || ltb (last_from 0 g.xs) x) ≡ true = rw (g.size, ← g.tip) o in
+          seam g.xs x [] ∙ simp (g.order, f);
+      tip = sym (last_snoc 0 g.xs x);
+      read =
+          ap (items_of kind) (take_more (parts_of s) n p there ∙ ap (λ (q : List ℕ). take n (parts_of s) ++ (q ∷ [])) (sym pe))
+          ∙ items_joined kind (take n (parts_of s)) (p ∷ [])
+          ∙ simp (g.read, xe);
+    }
 
-      pub item_last : length part ≤ k → ◌≡◌ {A = Listed} (record { good = true; count = count + 1; items = set items count x }) (listed_as
-          (list_of kind s))
-      unfolding zs rest_of checked is_batch
-      item_last h =
-          let l : length zs ≤ batch_most = omega (arith, zs_size) in
-          let e : list_of kind s ≡ some zs =
-          cut_value ∙ simp (le-ltb _ _ h) (ap checked (front_item g.xs x (some []) ∙ ap some (append-nil zs)) ∙ simp (le-leb _ _ l, zs_order)) in
-          listed_is zs (set items count x) (count + 1) zs_size zs_shape ∙ ap listed_as (sym e)
-
-      pub item_next : k < length part → Going kind s (set items count x) (count + 1) x (at + k + 1)
-      unfolding zs rest_of
-      item_next h = record {
-        xs = zs;
-        shape = zs_shape;
-        size = zs_size;
-        few = omega arith;
-        here = let e : length part ≡ length s - at = ap length pe ∙ length-drop at s in let m = g.here in omega arith;
-        order = zs_order;
-        tip = sym (last_snoc 0 g.xs x);
-        left =
-            let n : at + (k + 1) ≡ at + k + 1 = omega arith in
-            cut_value ∙ simp (lt-ltb _ _ h)
-            (ap checked (front_item g.xs x (items_of kind (split comma (drop (k + 1) part))))
-            ∙ ap (λ (l : List ℕ). checked (front zs (items_of kind (split comma l)))) (ap (drop (k + 1)) pe ∙ drop-drop (k + 1) at s
-            ∙ ap (λ (j : ℕ). drop j s) n));
-      }
-
-pub items_full : (kind : Kind) (s items : List ℕ) (count last at : ℕ) → Going kind s items count last at → batch_most ≤ count → list_of kind s ≡ none
-unfolding items_of
-items_full kind s items count last at g h =
-    let t : List ℕ = drop at s in
-    let e : length g.xs ≡ batch_most = let a = g.size in let b = g.few in omega arith in
-    g.left ∙ ap (λ (ps : List (List ℕ)). checked (front g.xs (items_of kind ps))) (split_is comma t)
-    ∙ full_case g.xs (item_of kind (take (place_of comma t) t)) (items_of kind (cond (ltb (place_of comma t) (length t)) (split comma (drop
-    (place_of comma t + 1) t)) [])) e
+-- all the parts are read
+pub items_end : (kind : Kind) (s items : List ℕ) (count last n : ℕ) → Going kind s items count last n → (length s ≡ 0 → ⊥)
+    → n ≡ length (parts_of s) → Some (record { count = count; entries = items }) ≡ listed_as (list_of kind s)
+unfolding checked is_batch
+items_end kind s items count last n g h e =
+    let all : take n (parts_of s) ≡ parts_of s = ap (λ (k : ℕ). take k (parts_of s)) e ∙ take-length (parts_of s) in
+    let few : length g.xs ≤ batch_most = let a = g.size in let b = g.few in omega arith in
+    let read : items_of kind (parts_of s) ≡ Some g.xs = ap (items_of kind) (sym all) ∙ g.read in
+    let whole : list_of kind s ≡ Some g.xs = some_items kind s h ∙ ap checked read ∙ simp (le-leb _ _ few, g.order) in
+    listed_is g.xs items count g.size g.shape ∙ ap listed_as (sym whole)

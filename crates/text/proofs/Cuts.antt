@@ -1,14 +1,13 @@
 -- Lines: a text is its first line and the lines of the rest.
-use Prim.Native.Nat.{◌+◌, ◌-◌, ◌<◌, ◌≤◌, suc, ℕ}
+use Prim.Native.Nat.{◌+◌, ◌<◌, ◌≤◌, suc, ℕ}
 use mathlib.Core.Bool.{Bool, cond, false, true}
 use mathlib.Core.List.{List, [], ◌++◌, ◌∷◌}
 use mathlib.Core.Path.{◌∙◌, ◌≡◌, ap, ap₂, refl, sym}
 use native.Mathlib.Omega.{arith}
 use borrow.Author.Tests.{le-ltb, lt-ltb, ltb-true}
 use lib.Dec.{eqb, leb-suc-suc, ltb}
-use lib.ListN.{drop, drop_of_length-le, get_or, length, length-drop, take}
+use lib.ListN.{drop, get_or, length, take}
 use lib.Seq.{drop-drop, length-take-le}
-use Rattle.laws.proofs.Lent.{rest_of}
 use Rattle.text.specs.Lines.{line_len, lines_of}
 use Rattle.text.specs.Lists.{ahead}
 use Rattle.text.specs.Places.{lf, place_of}
@@ -42,7 +41,7 @@ unfolding lines_of line_len place_of
 lines_cons b [] = one b (eqb b lf)
 lines_cons b (a ∷ s) = more b a s (place_of lf (a ∷ s)) (length (a ∷ s)) (eqb b lf) (lines_cons a s)
 
-lines_none : (s : List ℕ) → length s ≡ 0 → lines_of s ≡ []
+pub lines_none : (s : List ℕ) → length s ≡ 0 → lines_of s ≡ []
 unfolding lines_of
 lines_none [] h = refl
 lines_none (b ∷ s) h = absurd (omega arith)
@@ -85,75 +84,38 @@ module _ (s : List ℕ) (k : ℕ) (e : k ≡ place_of lf s) where
   unfolding line_len
   len_all h = let o : length s ≤ place_of lf s = omega arith in simp (le-ltb _ _ o)
 
--- so many lines are passed by a loop that stands at `at`; e is the length of the line there
-pub lines_turn : (s : List ℕ) (at i e : ℕ) → e ≡ line_len (take (length s - at) (drop at s)) → lines_of (drop at s) ≡ drop i (lines_of s)
-    → lines_of (drop (at + e) s) ≡ drop (i + 1) (lines_of s)
-lines_turn s at i e ee h =
-    ap lines_of (sym (drop-drop e at s))
-    ∙ ap (λ (k : ℕ). lines_of (drop k (drop at s))) (ee ∙ ap line_len (rest_of s at))
-    ∙ sym (lines_rest (drop at s))
-    ∙ ap (drop 1) h
-    ∙ drop-drop 1 i (lines_of s)
+-- one more line is passed; e is the length of the line there
+pub lines_turn : (s rest : List ℕ) (k e : ℕ) → e ≡ line_len rest → lines_of rest ≡ drop k (lines_of s) → lines_of (drop e rest) ≡ drop (k + 1) (lines_of s)
+lines_turn s rest k e ee h =
+    ap (λ (j : ℕ). lines_of (drop j rest)) ee ∙ sym (lines_rest rest) ∙ ap (drop 1) h ∙ drop-drop 1 k (lines_of s)
 
-pub len_fits : (s : List ℕ) (at e : ℕ) → at ≤ length s → e ≡ line_len (take (length s - at) (drop at s)) → at + e ≤ length s
-len_fits s at e h ee = omega (arith, ee ∙ ap line_len (rest_of s at), len_le (drop at s), length-drop at s)
+-- a text that is not empty has lines
+pub lines_some : (s : List ℕ) → 0 < length s → length (lines_of s) ≡ 0 → ⊥
+lines_some s h z = omega (arith, z, ap length (lines_more s h))
 
--- nor are there any before a later line
-pub lines_over : (s : List ℕ) (at i k : ℕ) → length s ≤ at → i ≤ k → lines_of (drop at s) ≡ drop i (lines_of s)
-    → lines_of (drop at s) ≡ drop k (lines_of s)
-lines_over s at i k h l e =
-    let n : lines_of (drop at s) ≡ [] = lines_none (drop at s) (omega (arith, length-drop at s)) in
-    let m : length (lines_of s) ≤ i = omega (arith, ap length (sym e ∙ n), length-drop i (lines_of s)) in
-    n ∙ sym (drop_of_length-le (lines_of s) {i = k} (omega arith))
+-- the first line of a text, and the lines after it
+module _ (s line : List ℕ) (e : line ≡ get_or (lines_of s) 0 []) where
+  line_long : length line ≡ line_len s
+  line_long = ap length (e ∙ line_first s) ∙ length-take-le (line_len s) s (len_le s)
 
--- past the end there are no lines
-pub lines_past : (s : List ℕ) (at : ℕ) → length s ≤ at → lines_of (drop at s) ≡ []
-lines_past s at h = lines_none (drop at s) (omega (arith, length-drop at s))
+  pub line_fits : length line ≤ length s
+  line_fits = omega (arith, line_long, len_le s)
 
--- a loop over the lines of a text, which stands at `at`: the line there, and the lines after it
-module _ (s line : List ℕ) (at : ℕ) (within : at ≤ length s) (e : line ≡ get_or (lines_of (take (length s - at) (drop at s))) 0 []) where
-  pub line_here : line ≡ get_or (lines_of (drop at s)) 0 []
-  line_here = e ∙ ap (λ (t : List ℕ). get_or (lines_of t) 0 []) (rest_of s at)
+  pub lines_after : drop 1 (lines_of s) ≡ lines_of (drop (length line) s)
+  lines_after = lines_rest s ∙ ap (λ (k : ℕ). lines_of (drop k s)) (sym line_long)
 
-  line_long : length line ≡ line_len (drop at s)
-  line_long = ap length (line_here ∙ line_first (drop at s)) ∙ length-take-le (line_len (drop at s)) (drop at s) (len_le (drop at s))
-
-  pub line_fits : at + length line ≤ length s
-  line_fits = omega (arith, line_long, len_le (drop at s), length-drop at s)
-
-  pub lines_after : drop 1 (lines_of (drop at s)) ≡ lines_of (drop (at + length line) s)
-  lines_after =
-      lines_rest (drop at s) ∙ ap (λ (k : ℕ). lines_of (drop k (drop at s))) (sym line_long) ∙ ap lines_of (drop-drop (length line) at s)
-
-  pub line_some : at < length s → 0 < length line
-  line_some h = omega (arith, line_long, len_pos (drop at s) (omega (arith, length-drop at s)))
-
-  pub lines_next : at < length s → lines_of (drop at s) ≡ line ∷ lines_of (drop (at + length line) s)
-  lines_next h =
-      lines_more (drop at s) (omega (arith, length-drop at s))
-      ∙ ap₂ (λ (l : List ℕ) (ls : List (List ℕ)). l ∷ ls) (sym line_here) lines_after
-
-  -- whether it is the last one
-  pub line_last : length (take (length s - at) (drop at s)) ≡ length line → length (lines_of (drop (at + length line) s)) ≡ 0
-  line_last h = ap length (lines_past s (at + length line) (omega (arith, ap length (rest_of s at), length-drop at s)))
-
-  pub line_not_last : (length (take (length s - at) (drop at s)) ≡ length line → ⊥) → length (lines_of (drop (at + length line) s)) ≡ 0 → ⊥
-  line_not_last h z =
-      let l = ap length (rest_of s at) in
-      let f = line_fits in
-      let some : 0 < length (drop (at + length line) s) = omega (arith, l, f, length-drop at s, length-drop (at + length line) s) in
-      omega (arith, z, ap length (lines_more (drop (at + length line) s) some))
-
--- the line at `at`, where the loop is not at the end: one turn goes past it
-pub record Turn (s line : List ℕ) (at : ℕ) : Type 0 where
-  pub fits : at + length line ≤ length s
+-- a text that is not empty: a loop goes past its first line
+pub record Turn (s line : List ℕ) : Type 0 where
+  pub fits : length line ≤ length s
   pub further : 0 < length line
-  pub next : lines_of (drop at s) ≡ line ∷ lines_of (drop (at + length line) s)
+  pub next : lines_of s ≡ line ∷ lines_of (drop (length line) s)
 
-pub turn : (s line : List ℕ) (at : ℕ) → at < length s → line ≡ get_or (lines_of (take (length s - at) (drop at s))) 0 [] → Turn s line at
-turn s line at h e =
-    let within : at ≤ length s = omega (arith, h) in
-    record { fits = line_fits s line at within e; further = line_some s line at within e h; next = lines_next s line at within e h }
+pub turn : (s line : List ℕ) → 0 < length s → line ≡ get_or (lines_of s) 0 [] → Turn s line
+turn s line h e = record {
+  fits = line_fits s line e;
+  further = omega (arith, line_long s line e, len_pos s h);
+  next = lines_more s h ∙ ap₂ (λ (l : List ℕ) (ls : List (List ℕ)). l ∷ ls) (sym e) (lines_after s line e);
+}
 
 -- ---- a text is its lines put together, so that its lines determine it
 

@@ -1,41 +1,40 @@
 -- A list as it is handed on: what its fields tell of the list that was read.
+use Rattle.std.specs.Prelude.{Option, Some, None}
 use Prim.Native.Nat.{◌-◌, ◌≤◌, ℕ}
-use mathlib.Core.Bool.{false, true}
-use mathlib.Core.List.{List}
-use mathlib.Core.Option.{Option, none, some}
+use mathlib.Core.List.{List, ◌++◌}
 use mathlib.Core.Path.{◌∙◌, ◌≡◌, ap, refl, sym}
 use native.Mathlib.Omega.{arith}
 use lib.ListN.{length, length-append, replicate, take}
 use lib.Seq.{take_at}
-use Rattle.laws.proofs.Tests.{clash}
+use Rattle.laws.proofs.Tests.{zero_one}
 use Rattle.rules.specs.Sizes.{batch_most}
 use Rattle.text.specs.Lists.{listed_as}
-use Rattle.text.specs.declared.Listed.{Listed}
+use Rattle.entries.specs.declared.places.Places.{Places}
 
-module _ (o : Option (List ℕ)) (L : Listed) (e : L ≡ listed_as o) where
-  good : L.good ≡ (listed_as o).good
-  good = ap (λ (l : Listed). l.good) e
+-- nothing is handed on where no list was read
+pub listed_none : (o : Option (List ℕ)) → None ≡ listed_as o → o ≡ None
+unfolding listed_as
+listed_none None e = refl
+listed_none (Some xs) e = absurd (zero_one cc)
 
-  pub listed_bad : L.good ≡ false → o ≡ none
+module _ (o : Option (List ℕ)) (l : Places batch_most) (e : Some l ≡ listed_as o) where
+  -- what is handed on where one was read: its items stand in front
+  pub listed_some : o ≡ Some (take l.count l.entries)
   unfolding listed_as
-  listed_bad g = go o (sym good ∙ g)
+  listed_some = go o e
     where
-      go : (x : Option (List ℕ)) → (listed_as x).good ≡ false → x ≡ none
-      go none q = refl
-      go (some xs) q = absurd (clash refl q)
+      go : (x : Option (List ℕ)) → Some l ≡ listed_as x → x ≡ Some (take l.count l.entries)
+      go None q = absurd (zero_one cc)
+      go (Some xs) q =
+          let is : l ≡ record { count = length xs; entries = xs ++ replicate (batch_most - length xs) 0 } = cc in
+          sym (ap (λ (i : Places batch_most). Some (take i.count i.entries)) is ∙ ap Some (take_at xs (replicate (batch_most - length xs) 0) (length xs) refl))
 
-  pub listed_some : L.good ≡ true → o ≡ some (take L.count L.items)
+  pub listed_room : l.count ≤ length l.entries
   unfolding listed_as
-  listed_some g = go o (sym good ∙ g) ∙ ap (λ (l : Listed). some (take l.count l.items)) (sym e)
+  listed_room = go o e
     where
-      go : (x : Option (List ℕ)) → (listed_as x).good ≡ true → x ≡ some (take (listed_as x).count (listed_as x).items)
-      go none q = absurd (clash q refl)
-      go (some xs) q = ap some (sym (take_at xs (replicate (batch_most - length xs) 0) (length xs) refl))
-
-  pub listed_room : L.count ≤ length L.items
-  unfolding listed_as
-  listed_room = rw e (go o)
-    where
-      go : (x : Option (List ℕ)) → (listed_as x).count ≤ length (listed_as x).items
-      go none = omega arith
-      go (some xs) = omega (arith, length-append xs (replicate (batch_most - length xs) 0))
+      go : (x : Option (List ℕ)) → Some l ≡ listed_as x → l.count ≤ length l.entries
+      go None q = absurd (zero_one cc)
+      go (Some xs) q =
+          let is : l ≡ record { count = length xs; entries = xs ++ replicate (batch_most - length xs) 0 } = cc in
+          rw is (omega (arith, length-append xs (replicate (batch_most - length xs) 0)))

@@ -4,6 +4,6 @@ pub mod Cuts
 pub mod Commas
 pub mod Keys
 pub mod Handed
-pub mod Items
+pub mod Listed
 pub mod Pairs
 pub mod Written

@@ -1,34 +1,26 @@
 -- Places of bytes: the answer for the whole is the answer for the rest; what stands after a byte.
-use Prim.Native.Nat.{◌+◌, ◌-◌, ◌<◌, ◌≤◌, suc, ℕ}
-use mathlib.Core.Bool.{Bool, cond, false, true}
+use Prim.Native.Nat.{◌+◌, ◌-◌, ◌≤◌, suc, ℕ}
+use mathlib.Core.Bool.{Bool, cond, false, not, true}
 use mathlib.Core.List.{List, [], ◌∷◌}
-use mathlib.Core.Path.{◌∙◌, ◌≡◌, ap, sym}
-use native.Mathlib.Nat.{add-zero}
-use native.Mathlib.Numerals.{add-one}
+use mathlib.Core.Path.{◌∙◌, ◌≡◌, ap, refl, sym}
 use native.Mathlib.Omega.{arith}
-use borrow.Author.Tests.{eq-eqb, ne_eqb}
-use lib.Dec.{eqb}
-use lib.ListN.{drop, drop_of_length-le, get_or, length, take}
-use lib.Seq.{drop-cons}
+use borrow.Author.Tests.{ltb-false}
+use lib.Dec.{eqb, ltb}
+use lib.ListN.{drop, drop_of_length-le, length, take}
+use Rattle.std.specs.Prelude.{Some, None, position, unwrap_or}
+use Rattle.std.specs.List.{position_or_len}
 use Rattle.laws.proofs.Lent.{rest_of}
 use Rattle.text.specs.Places.{past, place_of}
 
--- one more element
-pub next : (s : List ℕ) (i : ℕ) → i < length s → drop i s ≡ get_or s i 0 ∷ drop (i + 1) s
-next s i h = drop-cons s i 0 h ∙ ap (λ (j : ℕ). get_or s i 0 ∷ drop j s) (sym (add-one i))
-
-module _ (c : ℕ) (s : List ℕ) (i : ℕ) where
-  pub place_here : i < length s → get_or s i 0 ≡ c → i + place_of c (drop i s) ≡ i
-  unfolding place_of
-  place_here h e = ap (λ (t : List ℕ). i + place_of c t) (next s i h) ∙ simp (eq-eqb _ _ e) (add-zero i)
-
-  pub place_on : i < length s → (get_or s i 0 ≡ c → ⊥) → i + place_of c (drop i s) ≡ i + 1 + place_of c (drop (i + 1) s)
-  unfolding place_of
-  place_on h e = ap (λ (t : List ℕ). i + place_of c t) (next s i h) ∙ simp (ne_eqb _ _ e) (omega arith)
-
-  pub place_end : length s ≤ i → i + place_of c (drop i s) ≡ i
-  unfolding place_of
-  place_end h = ap (λ (t : List ℕ). i + place_of c t) (drop_of_length-le s {i = i} h) ∙ add-zero i
+-- where the first byte c stands, by the library's words
+place_or_len : (c : ℕ) (s : List ℕ) → position_or_len (λ (b : ℕ). eqb b c) s ≡ place_of c s
+unfolding place_of
+place_or_len c [] = refl
+place_or_len c (b ∷ s) = go (eqb b c) (position_or_len (λ (x : ℕ). eqb x c) s) (place_or_len c s)
+  where
+    go : (t : Bool) (k : ℕ) → k ≡ place_of c s → cond (not t) (1 + k) 0 ≡ cond t 0 (suc (place_of c s))
+    go true k e = refl
+    go false k e = omega arith
 
 place_le : (c : ℕ) (s : List ℕ) → place_of c s ≤ length s
 unfolding place_of
@@ -38,6 +30,14 @@ place_le c (b ∷ s) = go (eqb b c) (place_le c s)
     go : (t : Bool) → place_of c s ≤ length s → cond t 0 (suc (place_of c s)) ≤ suc (length s)
     go true h = omega arith
     go false h = omega arith
+
+pub place_first : (c : ℕ) (s : List ℕ)
+    → place_of c s ≡ unwrap_or (position (λ (b : ℕ). eqb b c) s) (length s)
+place_first c s = sym (ap (λ (k : ℕ). unwrap_or (cond (ltb k (length s)) (Some k) None) (length s)) (place_or_len c s) ∙ go (ltb (place_of c s) (length s)) refl)
+  where
+    go : (t : Bool) → ltb (place_of c s) (length s) ≡ t → unwrap_or (cond t (Some (place_of c s)) None) (length s) ≡ place_of c s
+    go true h = refl
+    go false h = omega (arith, ltb-false _ _ h, place_le c s)
 
 module _ (c k : ℕ) (s : List ℕ) (e : k ≡ place_of c s) where
   pub place_within : k ≤ length s

@@ -23,10 +23,6 @@ put_none w out h = record { answers = simp (lt-leb _ _ h); leaves = simp (lt-leb
 pub put_nothing : (w out : List ℕ) → w ≡ [] → Put w out 0 out
 put_nothing w out e = subst (λ (x : List ℕ). Put x out 0 out) (sym e) (put_done [] out out 0 (omega arith) refl refl)
 
--- where there is room, it was written
-pub put_written : (w out after : List ℕ) (a : ℕ) → length w ≤ length out → Put w out a after → (a ≡ length w) × (after ≡ onto w out)
-put_written w out after a h p = (p.answers ∙ simp (le-leb _ _ h), p.leaves ∙ simp (le-leb _ _ h))
-
 -- equal texts are put alike
 pub put_equal : (v w out after : List ℕ) (a : ℕ) → v ≡ w → Put v out a after → Put w out a after
 put_equal v w out after a e p = subst (λ (x : List ℕ). Put x out a after) e p

@@ -1,12 +1,9 @@
 -- "lines of key=value ended by LF". A line keeps its LF; "a line without its LF is bad" by the line's own form.
-use Rattle.std.specs.Prelude.{ℕ, ◌+◌, ◌-◌, Bool, ◌&&◌, cond, List, [], ◌∷◌, ltb, leb, eqb, length, get_or, take, drop}
-use Rattle.std.proofs.Math.Option.{Option, none}
+use Rattle.std.specs.Prelude.{ℕ, ◌+◌, ◌-◌, Bool, ◌&&◌, cond, List, [], ◌∷◌, ltb, leb, eqb, length, get_or, take, drop, Option, None}
 use Rattle.laws.specs.Members.{same}
 use Rattle.text.specs.Places.{lf, place_of}
 use Rattle.text.specs.Numbers.{number_in}
 use Rattle.text.specs.Lists.{ahead, list_of}
-use Rattle.text.specs.declared.Number.{Number}
-use Rattle.text.specs.declared.Number.TheVariants.{NoNumber}
 use Rattle.text.specs.declared.Kind.{Kind}
 
 -- the lines of a text, each with its LF; the last may lack it
@@ -27,9 +24,9 @@ abbrev pub value_of : List ℕ → List ℕ → List ℕ
 value_of key l = take (length l - 1 - length key) (drop (length key) l)
 
 -- a line key=number
-unfoldable pub number_line : List ℕ → ℕ → List ℕ → Number
-number_line key most l = cond (keyed key l) (number_in most (value_of key l)) NoNumber
+unfoldable pub number_line : List ℕ → ℕ → List ℕ → Option ℕ
+number_line key most l = cond (keyed key l) (number_in most (value_of key l)) None
 
 -- a line key=list
 unfoldable pub list_line : List ℕ → Kind → List ℕ → Option (List ℕ)
-list_line key kind l = cond (keyed key l) (list_of kind (value_of key l)) none
+list_line key kind l = cond (keyed key l) (list_of kind (value_of key l)) None

@@ -1,13 +1,15 @@
 -- "Numbers are decimal without leading zeros"; entries are written "as meter.interval.watthours".
-use Rattle.std.specs.Prelude.{ℕ, ◌+◌, ◌*◌, ◌-◌, Bool, true, ◌&&◌, not, cond, List, [], ◌∷◌, ltb, leb, eqb, length, get_or}
+use Rattle.std.specs.Prelude.{ℕ, ◌+◌, ◌*◌, ◌-◌, Bool, true, ◌&&◌, not, cond, List, [], ◌∷◌, ltb, leb, eqb, length, get_or, Option, Some, None}
 use Rattle.entries.specs.Fields.{entry}
 use Rattle.text.specs.Places.{dot, place_of, up_to, past}
-use Rattle.text.specs.declared.Number.{Number}
-use Rattle.text.specs.declared.Number.TheVariants.{Value, NoNumber}
 
 -- a digit: `0` to `9`, then `a` to `f`; 16 for any other byte
 unfoldable pub digit_of : ℕ → ℕ
 digit_of b = cond (ltb b 48) 16 (cond (leb b 57) (b - 48) (cond (ltb b 97) 16 (cond (leb b 102) (b - 87) 16)))
+
+-- a digit that is below the base
+abbrev pub digit_in : ℕ → ℕ → Option ℕ
+digit_in base b = cond (ltb (digit_of b) base) (Some (digit_of b)) None
 
 -- every byte is a digit below the base
 unfoldable pub digits_below : ℕ → List ℕ → Bool
@@ -28,12 +30,12 @@ unfoldable pub decimal : List ℕ → Bool
 decimal s = leb 1 (length s) && (not (leading_zero s) && digits_below 10 s)
 
 -- a number that is at most `most`
-unfoldable pub number_in : ℕ → List ℕ → Number
-number_in most s = cond (decimal s && leb (value_from 0 s) most) (Value (value_from 0 s)) NoNumber
+unfoldable pub number_in : ℕ → List ℕ → Option ℕ
+number_in most s = cond (decimal s && leb (value_from 0 s) most) (Some (value_from 0 s)) None
 
 -- a number with the byte `sep` after it
-unfoldable pub field_of : ℕ → ℕ → List ℕ → Number
-field_of sep most s = cond (ltb (place_of sep s) (length s)) (number_in most (up_to sep s)) NoNumber
+unfoldable pub field_of : ℕ → ℕ → List ℕ → Option ℕ
+field_of sep most s = cond (ltb (place_of sep s) (length s)) (number_in most (up_to sep s)) None
 
 -- the most that 16 bits hold, and that 32 bits hold
 abbrev pub half_most : ℕ
@@ -43,12 +45,12 @@ abbrev pub word_most : ℕ
 word_most = 4294967295
 
 -- the entry of these fields
-unfoldable pub entry_as : Number → Number → Number → Number
-entry_as (Value m) (Value i) (Value w) = Value (entry m i w)
-entry_as (Value m) (Value i) NoNumber = NoNumber
-entry_as (Value m) NoNumber w = NoNumber
-entry_as NoNumber i w = NoNumber
+unfoldable pub entry_as : Option ℕ → Option ℕ → Option ℕ → Option ℕ
+entry_as (Some m) (Some i) (Some w) = Some (entry m i w)
+entry_as (Some m) (Some i) None = None
+entry_as (Some m) None w = None
+entry_as None i w = None
 
 -- meter.interval.watthours
-unfoldable pub entry_in : List ℕ → Number
+unfoldable pub entry_in : List ℕ → Option ℕ
 entry_in s = entry_as (field_of dot half_most s) (field_of dot half_most (past dot s)) (number_in word_most (past dot (past dot s)))

@@ -6,14 +6,7 @@ ghost use Rattle.text.specs.Places.{past, place_of};
 pub(crate) fn place(s: &[u8], c: u8) -> usize
     ensures { result ≡ place_of c s.now }
 {
-    let mut i = 0;
-    while i < s.len() {
-        if s[i] == c {
-            return i;
-        }
-        i += 1;
-    }
-    i
+    s.iter().position(|b| *b == c).unwrap_or(s.len())
 }
 
 // What stands after the first byte c, as that part of the text.

@@ -3,33 +3,28 @@ use Prim.Native.Nat.{ℕ, zero, suc, ◌+◌, ◌*◌, ◌-◌, ◌%◌, ◌^◌
 use mathlib.Core.Path.{◌≡◌, refl, sym, ap, ap₂, ◌∙◌}
 use mathlib.Core.Bool.{Bool, true, false}
 use mathlib.Core.List.{List}
-use mathlib.Core.Option.{Option, none, some}
 use mathlib.Core.Logic.{⊎_elim}
-use native.Mathlib.Nat.{eq-or-lt_of_le, zero-mul, one-mul}
+use native.Mathlib.Nat.{eq-or-lt_of_le, one-mul}
 use native.Mathlib.Numerals.{add-one}
 use native.Mathlib.Omega.{arith}
-use borrow.Author.Tests.{le-leb, lt-leb, leb-true, leb-false, lt-ltb, le-ltb, eq-eqb, ne_eqb}
+use borrow.Author.Tests.{leb-true, leb-false, lt-ltb, le-ltb, eq-eqb, ne_eqb}
 use lib.Dec.{leb}
+use Rattle.std.proofs.Common.{Ok, Err}
 use lib.ListN.{length, take, drop}
 use Rattle.laws.specs.Masks.{as_bit, mask_of}
-use Rattle.laws.proofs.Tests.{zero_one}
 use Rattle.laws.proofs.Bits.{mask_turn, mask_fits, one_shifted}
 use Rattle.rules.specs.Sizes.{nodes_most, sized}
-use Rattle.rules.specs.Refusals.{refuse◌unless◌then◌, done, if_done}
+use Rattle.rules.specs.Refusals.{refuse◌unless◌then◌, done}
+use Rattle.rules.specs.Answers.{number_of}
+use Rattle.rules.specs.declared.refusal.Refusal.{Refusal}
+use Rattle.rules.specs.declared.refusal.Refusal.TheVariants.{Sizes, IllCut}
+use Rattle.rules.proofs.Answers.{no_row, refuses, answers, given}
 use Rattle.wire.specs.Sizes.{length_size}
-use Rattle.wire.specs.Inbox.{length_at, end_at, place_of, message_of, well_cut, Span, MessageAt, is_unreadable, unreadable_senders, inbox_number, ReadInbox}
-use Rattle.wire.specs.declared.Place.TheVariants.{Message, Missing}
+use Rattle.wire.specs.Inbox.{length_at, end_at, place_of, message_of, well_cut, MessageAt, is_unreadable, unreadable_senders, inbox_number, ReadInbox}
+use Rattle.wire.specs.declared.Span.{Span}
+use borrow.Author.Tests.{le-leb}
 
 -- ---- one message
-
-module _ (s : List ℕ) (at : ℕ) where
-  pub is_missing : length s < end_at s at → MessageAt s at Missing
-  is_missing h = let e = lt-leb _ _ h in record { number = simp e; values = simp e }
-
-  pub is_message : (k : ℕ) → end_at s at ≤ length s → k ≡ length_at s at → MessageAt s at (Message (at + length_size) (at + length_size + k))
-  is_message k h e =
-      let f = le-leb _ _ h in
-      record { number = simp f; values = simp f (λ i. some (record { start = at + length_size; end = at + length_size + e i })) }
 
 -- what an answer tells
 pub record Told (s : List ℕ) (at start end : ℕ) : Type 0 where
@@ -37,23 +32,26 @@ pub record Told (s : List ℕ) (at start end : ℕ) : Type 0 where
   pub start_is : start ≡ at + length_size
   pub end_is : end ≡ end_at s at
 
-told_by : (s : List ℕ) (at start end : ℕ) (t : Bool) → leb (end_at s at) (length s) ≡ t
-    → some (record { start = start; end = end })
-    ≡ if_done {A = Option Span} (refuse 4 unless t then done) (some (record { start = at + length_size; end = end_at s at })) none → Told s at start end
-told_by s at start end true u e =
-    let q : ◌≡◌ {A = Span} (record { start = start; end = end }) (record { start = at + length_size; end = end_at s at }) = cc in
-    record { fits = leb-true _ _ u; start_is = ap (λ (p : Span). p.start) q; end_is = ap (λ (p : Span). p.end) q }
-told_by s at start end false u e = zero_one cc
+module _ (s : List ℕ) (at : ℕ) where
+  fits_by : (t : Bool) → leb (end_at s at) (length s) ≡ t → (refuse 4 unless t then done) ≡ done → end_at s at ≤ length s
+  fits_by true u e = leb-true _ _ u
+  fits_by false u e = absurd (omega arith)
 
-pub message_told : (s : List ℕ) (at start end : ℕ) → MessageAt s at (Message start end) → Told s at start end
-message_told s at start end r = told_by s at start end (leb (end_at s at) (length s)) refl r.values
+  pub message_told : (p : Span) → MessageAt s at (Ok p) → Told s at p.start p.end
+  message_told p r =
+      let g = given r in
+      record {
+        fits = fits_by (leb (end_at s at) (length s)) refl g.0;
+        start_is = ap (λ (q : Span). q.start) g.1;
+        end_is = ap (λ (q : Span). q.end) g.1;
+      }
 
-missing_by : (s : List ℕ) (at : ℕ) (t : Bool) → leb (end_at s at) (length s) ≡ t → 4 ≡ (refuse 4 unless t then done) → leb (end_at s at) (length s) ≡ false
-missing_by s at true u e = absurd (omega arith)
-missing_by s at false u e = u
+  missing_by : (r : Refusal) (t : Bool) → leb (end_at s at) (length s) ≡ t → number_of r ≡ (refuse 4 unless t then done) → (length s < end_at s at) × (number_of r ≡ 4)
+  missing_by r true u e = no_row r e
+  missing_by r false u e = (leb-false _ _ u, e)
 
-pub missing_told : (s : List ℕ) (at : ℕ) → MessageAt s at Missing → length s < end_at s at
-missing_told s at r = leb-false _ _ (missing_by s at (leb (end_at s at) (length s)) refl r.number)
+  pub missing_told : (r : Refusal) → MessageAt s at (Err r) → (length s < end_at s at) × (number_of r ≡ 4)
+  missing_told r p = missing_by r (leb (end_at s at) (length s)) refl p.number_is
 
 -- ---- places
 
@@ -96,37 +94,40 @@ module _ (n me : ℕ) (s : List ℕ) where
     pub still_fits : j < nodes_most → mask + bit < 2 ^ nodes_most
     still_fits = mask_fits nodes_most unreadable_from j mask bit m its_bit
 
-pub bit_none : (t : Bool) (j : ℕ) → t ≡ false → 0 ≡ as_bit t * 2 ^ j
-bit_none t j e = sym (ap (λ (x : Bool). as_bit x * 2 ^ j) e ∙ zero-mul (2 ^ j))
-
 pub bit_set : (t : Bool) (j : ℕ) → t ≡ true → j < nodes_most → (1 * 2 ^ j) % 2 ^ nodes_most ≡ as_bit t * 2 ^ j
 bit_set t j e h = one_shifted j 16 h ∙ sym (ap (λ (x : Bool). as_bit x * 2 ^ j) e ∙ one-mul (2 ^ j))
 
 -- ---- the answers
 
 module _ (n me : ℕ) (s : List ℕ) where
-  pub no_nodes_lem : sized n ≡ false → ReadInbox n me s (record { number = 1; unreadable = 0 })
+  pub no_nodes_lem : sized n ≡ false → ReadInbox n me s (Err Sizes)
   unfolding inbox_number
-  no_nodes_lem h = record { number = simp h; unreadable = simp h }
+  no_nodes_lem h = refuses (simp h)
 
   module _ (nodes : sized n ≡ true) where
-    pub no_me : n ≤ me → ReadInbox n me s (record { number = 1; unreadable = 0 })
+    pub no_me : n ≤ me → ReadInbox n me s (Err Sizes)
     unfolding inbox_number
-    no_me h = let e = le-ltb _ _ h in record { number = simp (nodes, e); unreadable = simp (nodes, e) }
+    no_me h = let e = le-ltb _ _ h in refuses (simp (nodes, e))
 
     module _ (own : me < n) where
-      pub ill_cut : well_cut n s ≡ false → ReadInbox n me s (record { number = 4; unreadable = 0 })
+      pub ill_cut : (r : Refusal) → number_of r ≡ 4 → well_cut n s ≡ false → ReadInbox n me s (Err r)
       unfolding inbox_number
-      ill_cut c = let e = lt-ltb _ _ own in record { number = simp (nodes, e, c); unreadable = simp (nodes, e, c) }
+      ill_cut r k c = let e = lt-ltb _ _ own in refuses (simp (nodes, e, c) (sym k))
 
-      pub heard : (mask : ℕ) → place_of s n ≡ length s → mask ≡ mask_of (unreadable_from n me s) n
-          → ReadInbox n me s (record { number = 0; unreadable = mask })
+      pub heard : (mask : ℕ) → place_of s n ≡ length s → mask ≡ mask_of (unreadable_from n me s) n → ReadInbox n me s (Ok mask)
       unfolding inbox_number well_cut unreadable_senders
       heard mask q m =
           let e = lt-ltb _ _ own in
           let c = eq-eqb (place_of s n) (length s) q in
-          record { number = simp (nodes, e, c); unreadable = simp (nodes, e, c) m }
+          answers (simp (nodes, e, c)) m
 
-      pub too_long : place_of s n < length s → ReadInbox n me s (record { number = 4; unreadable = 0 })
+      pub too_long : place_of s n < length s → ReadInbox n me s (Err IllCut)
       unfolding well_cut
-      too_long h = ill_cut (ne_eqb (place_of s n) (length s) (λ e. omega arith))
+      too_long h = ill_cut IllCut refl (ne_eqb (place_of s n) (length s) (λ e. omega arith))
+
+-- ---- the message is there
+
+pub is_message : (s : List ℕ) (at k : ℕ) → end_at s at ≤ length s → k ≡ length_at s at
+    → MessageAt s at (Ok (record { start = at + length_size; end = at + length_size + k }))
+is_message s at k h e =
+    answers (simp (le-leb _ _ h)) (λ i. record { start = at + length_size; end = at + length_size + e i })

@@ -1,16 +1,15 @@
 -- "An inbox is exactly n messages, senders 0 to n − 1, each after its length in two bytes, low byte first. Length 0 is silence. Too short or
 -- too long is an ill-cut inbox; a stated length above 3,960 that fits is only an unreadable message. [..] Each message is read from its own
 -- place in the inbox."
-use Rattle.std.specs.Prelude.{ℕ, zero, suc, ◌+◌, ◌*◌, ◌/◌, ◌%◌, ◌≡◌, Bool, not, ◌&&◌, List, [], ◌∷◌, ◌++◌, eqb, ltb, leb, length, get_or, take, drop}
-use Rattle.std.proofs.Math.Option.{Option, none, some}
+use Rattle.std.specs.Prelude.{ℕ, zero, suc, ◌+◌, ◌*◌, ◌/◌, ◌%◌, Bool, not, ◌&&◌, List, [], ◌∷◌, ◌++◌, eqb, ltb, leb, length, get_or, take, drop, Result}
 use Rattle.laws.specs.Masks.{mask_of}
 use Rattle.rules.specs.Sizes.{sized}
-use Rattle.rules.specs.Refusals.{refuse◌unless◌then◌, done, if_done}
+use Rattle.rules.specs.Refusals.{refuse◌unless◌then◌, done}
+use Rattle.rules.specs.Answers.{Answers}
+use Rattle.rules.specs.declared.refusal.Refusal.{Refusal}
 use Rattle.wire.specs.Sizes.{length_size}
 use Rattle.wire.specs.Message.{votes_of, silent}
-use Rattle.wire.specs.declared.Place.{Place}
-use Rattle.wire.specs.declared.Place.TheVariants.{Message, Missing}
-use Rattle.wire.specs.declared.Heard.{Heard}
+use Rattle.wire.specs.declared.Span.{Span}
 
 -- the length that stands at a place
 abbrev pub length_at : List ℕ → ℕ → ℕ
@@ -40,25 +39,15 @@ inbox_bytes (m ∷ ms) = length m % 256 ∷ length m / 256 % 256 ∷ (m ++ inbox
 
 -- ---- what `message_at` promises: 4 where bytes are missing
 
-abbrev pub number_of : Place → ℕ
-number_of (Message start end) = done
-number_of Missing = 4
-
--- from where to where
-pub record Span : Type 0 where
-  pub start : ℕ
-  pub end : ℕ
-
-abbrev pub values_of : Place → Option Span
-values_of (Message start end) = some (record { start = start; end = end })
-values_of Missing = none
-
 abbrev pub place_number : List ℕ → ℕ → ℕ
 place_number s at = refuse 4 unless leb (end_at s at) (length s) then done
 
-pub record MessageAt (inbox : List ℕ) (at : ℕ) (answer : Place) : Type 0 where
-  pub number : number_of answer ≡ place_number inbox at
-  pub values : values_of answer ≡ if_done (place_number inbox at) (some (record { start = at + length_size; end = end_at inbox at })) none
+-- from where to where
+abbrev pub span_at : List ℕ → ℕ → Span
+span_at s at = record { start = at + length_size; end = end_at s at }
+
+abbrev pub MessageAt : (inbox : List ℕ) (at : ℕ) → Result Span Refusal → Type 0
+MessageAt inbox at = Answers (place_number inbox at) (span_at inbox at)
 
 -- ---- what `read_inbox` promises: the mask of the senders, the own left out, whose message is unreadable
 
@@ -72,6 +61,5 @@ unreadable_senders n me inbox = mask_of (λ j. is_unreadable n me j (message_of 
 unfoldable pub inbox_number : ℕ → ℕ → List ℕ → ℕ
 inbox_number n me inbox = refuse 1 unless sized n && ltb me n then refuse 4 unless well_cut n inbox then done
 
-pub record ReadInbox (n me : ℕ) (inbox : List ℕ) (answer : Heard) : Type 0 where
-  pub number : answer.number ≡ inbox_number n me inbox
-  pub unreadable : answer.unreadable ≡ if_done (inbox_number n me inbox) (unreadable_senders n me inbox) 0
+abbrev pub ReadInbox : (n me : ℕ) (inbox : List ℕ) → Result ℕ Refusal → Type 0
+ReadInbox n me inbox = Answers (inbox_number n me inbox) (unreadable_senders n me inbox)

@@ -4,32 +4,29 @@ ghost use Rattle.laws.specs.Masks.{as_bit};
 ghost use Rattle.rules.specs.Sizes.{sized};
 ghost use Rattle.wire.specs.Inbox.{is_unreadable, MessageAt, ReadInbox};
 
-use crate::pair::pair_at;
-use crate::{Heard, LENGTH_SIZE, Message, Place, read_message};
-use rules::is_sized;
+use crate::{LENGTH_SIZE, Span, read_message};
+use rules::{Refusal, is_sized};
 
 // Where the message stands whose length stands at `at`.
-pub fn message_at(inbox: &[u8], at: usize) -> Place
+pub fn message_at(inbox: &[u8], at: usize) -> Result<Span, Refusal>
     ensures { MessageAt inbox.now at result }
 {
-    if inbox.len() < LENGTH_SIZE {
-        return Place::Missing;
-    }
-    if inbox.len() - LENGTH_SIZE < at {
-        return Place::Missing;
+    let Some([low, high, rest @ ..]) = inbox.get(at..) else {
+        return Err(Refusal::IllCut);
+    };
+    let length = u16::from_le_bytes([*low, *high]) as usize;
+    if rest.len() < length {
+        return Err(Refusal::IllCut);
     }
     let start = at + LENGTH_SIZE;
-    let length = pair_at(inbox, at) as usize;
-    if inbox.len() - start < length {
-        return Place::Missing;
-    }
-    Place::Message {
+    Ok(Span {
         start,
         end: start + length,
-    }
+    })
 }
 
 // The sender's bit where its message is unreadable and it is not the node itself, else 0.
+#[tactic(auto, unfolding(rules::specs::Sizes::sized))]
 fn sender_bit(n: usize, me: usize, sender: usize, message: &[u8]) -> u16
     requires { (sized n ≡ true) × (sender < n) }
     ensures { result ≡ as_bit (is_unreadable n me sender message.now) * 2 ^ sender }
@@ -38,51 +35,27 @@ fn sender_bit(n: usize, me: usize, sender: usize, message: &[u8]) -> u16
         return 0;
     }
     match read_message(n, message) {
-        Message::Votes(_) => 0,
-        Message::Unreadable => 1u16 << sender,
-        Message::Refused => 0,
+        Ok(None) => 1u16 << sender,
+        Ok(Some(_)) | Err(_) => 0,
     }
 }
 
-// Each message is read from its own place in the inbox.
-pub fn read_inbox(n: usize, me: usize, inbox: &[u8]) -> Heard
+// The senders whose message is unreadable. Each message is read from its own place in the inbox.
+pub fn read_inbox(n: usize, me: usize, inbox: &[u8]) -> Result<u16, Refusal>
     ensures { ReadInbox n me inbox.now result }
 {
-    if !is_sized(n) {
-        return Heard {
-            number: 1,
-            unreadable: 0,
-        };
-    }
-    if n <= me {
-        return Heard {
-            number: 1,
-            unreadable: 0,
-        };
+    if !is_sized(n) || n <= me {
+        return Err(Refusal::Sizes);
     }
     let mut unreadable: u16 = 0;
     let mut at: usize = 0;
-    let mut sender: usize = 0;
-    while sender < n {
-        let Place::Message { start, end } = message_at(inbox, at) else {
-            return Heard {
-                number: 4,
-                unreadable: 0,
-            };
-        };
-        unreadable = unreadable + sender_bit(n, me, sender, &inbox[start..end]);
-        at = end;
-        sender = sender + 1;
+    for sender in 0..n {
+        let place = message_at(inbox, at)?;
+        unreadable += sender_bit(n, me, sender, &inbox[place.start..place.end]);
+        at = place.end;
     }
-    let left = inbox.len() - at;
-    if 0 < left {
-        return Heard {
-            number: 4,
-            unreadable: 0,
-        };
+    if at < inbox.len() {
+        return Err(Refusal::IllCut);
     }
-    Heard {
-        number: 0,
-        unreadable,
-    }
+    Ok(unreadable)
 }

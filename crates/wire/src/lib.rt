@@ -24,45 +24,18 @@ pub const MESSAGE_MOST: usize = (NODES_MOST - 1) * 2 * RECORD_MOST;
 // Bytes of a message's length in an inbox.
 pub const LENGTH_SIZE: usize = 2;
 
-// What a part of an inbox starts with; `next` counts from the part's start. Refused is 1.
-#[derive(Clone, Copy)]
-pub enum Record {
-    Vote {
-        primary: usize,
-        mask: u16,
-        count: usize,
-        next: usize,
-    },
-    Unreadable,
-    Refused,
+// What a readable record is told by; `next` counts from the part's start.
+#[derive(Clone, Copy, Debug, PartialEq, Eq)]
+pub struct Reading {
+    pub primary: usize,
+    pub mask: u16,
+    pub count: usize,
+    pub next: usize,
 }
 
-// What a whole message reads as: so many votes. Refused is 1.
-#[derive(Clone, Copy)]
-pub enum Message {
-    Votes(usize),
-    Unreadable,
-    Refused,
-}
-
-// What became of a record to be written: its size, or the refusal's number.
-#[derive(Clone, Copy)]
-pub enum Written {
-    Length(usize),
-    Refused(u8),
-}
-
-// Where a message stands in an inbox. Missing is 4.
-#[derive(Clone, Copy)]
-pub enum Place {
-    Message { start: usize, end: usize },
-    Missing,
-}
-
-// The senders of an inbox whose message is unreadable.
-#[repr(C)]
-#[derive(Clone, Copy)]
-pub struct Heard {
-    pub number: u8,
-    pub unreadable: u16,
+// Where a message stands in an inbox: from its start, up to its end.
+#[derive(Clone, Copy, Debug, PartialEq, Eq)]
+pub struct Span {
+    pub start: usize,
+    pub end: usize,
 }

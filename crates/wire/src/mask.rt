@@ -7,8 +7,5 @@ use rules::NODES_MOST;
 pub(crate) fn fits(n: usize, mask: u16) -> bool
     ensures { result ≡ not (leb (2 ^ n) mask) }
 {
-    if NODES_MOST <= n {
-        return true;
-    }
-    (mask as u32) < (1u32 << n)
+    NODES_MOST <= n || (mask as u32) < (1u32 << n)
 }

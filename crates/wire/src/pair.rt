@@ -6,7 +6,5 @@ pub(crate) fn pair_at(bytes: &[u8], at: usize) -> u16
     requires { at + 1 < length bytes.now }
     ensures { result ≡ get_or bytes.now at 0 + 256 * get_or bytes.now (at + 1) 0 }
 {
-    let low = bytes[at] as u16;
-    let high = bytes[at + 1] as u16;
-    low + 256 * high
+    u16::from_le_bytes([bytes[at], bytes[at + 1]])
 }

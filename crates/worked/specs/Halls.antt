@@ -1,28 +1,15 @@
--- What the tests hand over and expect: nodes and answers by their parts, inboxes of three.
-use Rattle.std.specs.Prelude.{ℕ, zero, suc, List, [], ◌∷◌, ◌++◌}
+-- What the tests hand over and expect: nodes by their parts, inboxes of three.
+use Rattle.std.specs.Prelude.{ℕ, zero, suc, List, [], ◌∷◌, ◌++◌, Result, Ok}
+use Rattle.rules.specs.declared.refusal.Refusal.{Refusal}
 use Rattle.rules.specs.Vote.{Batch}
-use Rattle.rules.specs.Refusals.{done}
 use Rattle.node.specs.State.{node_of}
-use Rattle.node.specs.declared.Made.{Made}
 use Rattle.node.specs.declared.Node.{Node}
-use Rattle.node.specs.declared.Opened.{Opened}
 use Rattle.step.specs.declared.Stepped.{Stepped}
 use Rattle.entries.specs.Fields.{entry}
-use Rattle.closing.specs.declared.Closed.{Closed}
 
--- ---- answers of calls that are done
-
-abbrev pub made : Node → Made
-made node = record { number = done; node = node }
-
-abbrev pub opened : (length : ℕ) → Node → Opened
-opened length node = record { number = done; length = length; node = node }
-
-abbrev pub stepped : (length unreadable : ℕ) → Node → Stepped
-stepped length unreadable node = record { number = done; length = length; unreadable = unreadable; node = node }
-
-abbrev pub closed : (length : ℕ) → Closed
-closed length = record { number = done; length = length }
+-- the answer of a step that is done
+abbrev pub stepped : (length unreadable : ℕ) → Result Stepped Refusal
+stepped length unreadable = Ok (record { length = length; unreadable = unreadable })
 
 -- ---- a node alone: n = 1, f = 0
 

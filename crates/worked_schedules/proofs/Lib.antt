@@ -1,3 +1,4 @@
+pub mod Computing
 pub mod Forms
 pub mod Contents
 pub mod Printed

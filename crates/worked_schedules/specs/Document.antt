@@ -1,5 +1,6 @@
 -- "Input, whole" and "Output, whole": document 01's own schedule, and what it prints.
 use Rattle.std.specs.Prelude.{ℕ, List, [], ◌∷◌, ◌++◌}
+use Rattle.header.specs.declared.Header.{Header}
 
 -- ---- its lines
 
@@ -38,6 +39,10 @@ the_end = 101 ∷ 110 ∷ 100 ∷ 61 ∷ 10 ∷ []
 -- the whole file
 abbrev pub document : List ℕ
 document = n_three ++ f_one ++ faulty_zero ++ tray_none ++ tray_forty ++ tray_sixty ++ send_seventy ++ the_end
+
+-- what its header says: three nodes, one faulty at most, and that is node 0
+abbrev pub header : Header
+header = record { n = 3; f = 1; faulty = 0b001 }
 
 -- ---- what is printed of it
 

@@ -1,10 +1,7 @@
--- The header that was read has the mask; without one there is nobody.
-use mathlib.Core.Path.{◌∙◌, sym}
-use Rattle.contents.proofs.Faults.{mask_is, no_mask}
+-- The header has the mask; one that was not read has nobody's.
+use Rattle.std.proofs.Common.{◌∙◌, ap}
+use Rattle.contents.proofs.Faults.{mask_held}
 use Rattle.contents.proofs.faulty_mask.Goals as goal
 
-pub returns-in-Read : goal.returns-in-Read
-returns-in-Read c = mask_is c.args.s.now _ (sym c.read_header.ensures ∙ c.in-Read.is)
-
-pub returns-in-BadAt : goal.returns-in-BadAt
-returns-in-BadAt c = no_mask c.args.s.now _ (sym c.in-BadAt.ensures)
+pub returns : goal.returns
+returns c = ap (λ h. h.faulty) c.header_of.ensures ∙ mask_held c.args.s.now

@@ -6,7 +6,7 @@ use Rattle.rehearsal.proofs.Tellings.{told_within}
 use Rattle.rehearse.proofs.main.Goals as goal
 
 pub slice_bounds-output-end : goal.slice_bounds-output-end
-slice_bounds-output-end c = omega (arith, told_within _ _ _ _ c.rehearsal-answer.ensures)
+slice_bounds-output-end c = omega (arith, told_within _ _ _ _ c.rehearsal.ensures, c.unwrap_or-length.ensures)
 
 pub slice_bounds-write_all-end : goal.slice_bounds-write_all-end
-slice_bounds-write_all-end c = sym (length-take-le c.rehearsal-answer.result.length _ (omega (arith, told_within _ _ _ _ c.rehearsal-answer.ensures)))
+slice_bounds-write_all-end c = sym (length-take-le c.unwrap_or-length.result _ (omega (arith, told_within _ _ _ _ c.rehearsal.ensures, c.unwrap_or-length.ensures)))

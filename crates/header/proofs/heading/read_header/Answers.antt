@@ -1,52 +1,27 @@
--- The answer for the whole is the answer for the keys that are left and the lines from `at` on.
-use Prim.Native.Nat.{◌+◌}
-use mathlib.Core.Path.{◌∙◌, refl, sym}
-use native.Mathlib.Omega.{arith}
-use Rattle.text.proofs.Cuts.{line_fits, line_here, lines_after}
-use Rattle.header.proofs.Heads.{head_bad, head_done, head_good}
+-- The lines are read one after the other, and the first bad one ends the reading.
+use Rattle.std.proofs.Common.{◌∙◌, ap, Err, sym}
+use Rattle.std.proofs.lemmas.Result.{err_from_is_err_and}
+use Rattle.text.specs.Lines.{lines_of}
+use Rattle.header.proofs.Heads.{head_one, head_two, head_three, header_zero}
 use Rattle.header.proofs.heading.read_header.Goals as goal
 
-pub loop-i-init : goal.loop-i-init
-loop-i-init c = (omega arith, omega arith, refl)
+pub returns-in_err-h : goal.returns-in_err-h
+returns-in_err-h c =
+    let d = c.default.ensures in
+    let p = err_from_is_err_and c.from_residual.result c.from_residual.ensures.1 in
+    p.1 ∙ ap Err p.2 ∙ sym (head_one (lines_of c.args.s.now) _ (header_zero _ d.0 d.1.0 d.1.1) _ c.first_line.ensures _ c.in_err-h.ensures)
 
-pub returns-in-BadAt : goal.returns-in-BadAt
-returns-in-BadAt c =
-    let a = c.args in
-    let l = c.loop-i in
-    let here = line_here a.s.now _ l.at (omega arith) c.first_line-line.ensures in
-    let after = lines_after a.s.now _ l.at (omega arith) c.first_line-line.ensures in
-    let line = sym c.in-BadAt.ensures in
-    sym (l.invariant.2 ∙ head_bad l.i (l.i + 1) l.h _ _ _ _ c.loop-i-test.true
-    c.key_at.ensures here after _ line)
-
-pub overflow_add-at : goal.overflow_add-at
-overflow_add-at c =
-    let a = c.args in
-    let l = c.loop-i in
-    omega (
-      arith,
-      line_fits a.s.now c.first_line-line.result.now l.at (omega arith)
-          c.first_line-line.ensures,
-    )
-
-pub loop-i-preserved : goal.loop-i-preserved
-loop-i-preserved c =
-    let a = c.args in
-    let l = c.loop-i in
-    let fits = line_fits a.s.now c.first_line-line.result.now l.at (omega arith)
-    c.first_line-line.ensures in
-    let here = line_here a.s.now _ l.at (omega arith) c.first_line-line.ensures in
-    let after = lines_after a.s.now _ l.at (omega arith) c.first_line-line.ensures in
-    let line = sym c.in-Read.ensures in (
-      fits,
-      omega arith,
-      l.invariant.2 ∙ head_good l.i (l.i + 1) l.h _ _ _ _
-          c.loop-i-test.true
-          c.key_at.ensures here after _ line,
-    )
+pub returns-in_err-h-2 : goal.returns-in_err-h-2
+returns-in_err-h-2 c =
+    let d = c.default.ensures in
+    let p = err_from_is_err_and c.from_residual-in_err-h-2.result c.from_residual-in_err-h-2.ensures.1 in
+    p.1 ∙ ap Err p.2
+    ∙ sym (head_two (lines_of c.args.s.now) _ (header_zero _ d.0 d.1.0 d.1.1) _ c.first_line.ensures _ c.in_ok-h.ensures _ c.past_lines-s.ensures _
+    c.first_line-2.ensures _ c.in_err-h-2.ensures)
 
 pub returns : goal.returns
 returns c =
-    let a = c.args in
-    let l = c.loop-i in
-    sym (l.invariant.2 ∙ head_done l.i (l.i + 1) l.h _ c.loop-i-test.false)
+    let d = c.default.ensures in
+    c.with_faulty.ensures
+    ∙ sym (head_three (lines_of c.args.s.now) _ (header_zero _ d.0 d.1.0 d.1.1) _ c.first_line.ensures _ c.in_ok-h.ensures _ c.past_lines-s.ensures _
+    c.first_line-2.ensures _ c.in_ok-h-2.ensures _ c.past_lines-s-2.ensures _ c.first_line-3.ensures)

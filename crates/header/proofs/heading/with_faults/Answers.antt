@@ -1,30 +1,26 @@
 -- No number, too many, or few enough.
-use mathlib.Core.Path.{◌∙◌, sym}
-use native.Mathlib.Omega.{arith}
+use Rattle.std.proofs.Common.{◌∙◌, ap, arith, Err, sym}
+use Rattle.std.proofs.lemmas.Result.{err_from_is_err_and}
 use Rattle.text.specs.Numbers.{word_most}
 use Rattle.text.proofs.Keys.{line_small}
 use Rattle.header.specs.Keys.{faults_key}
-use Rattle.header.proofs.Heads.{faults_few, faults_many, faults_none}
+use Rattle.header.proofs.Heads.{faults_few, faults_many, faults_none, refused}
 use Rattle.header.proofs.heading.with_faults.Goals as goal
 
-pub returns-in_default : goal.returns-in_default
-returns-in_default c =
+pub returns-in_err-f : goal.returns-in_err-f
+returns-in_err-f c =
     let a = c.args in
-    sym (faults_none a.k a.h _ (sym c.in_default.ensures))
+    let p = err_from_is_err_and c.from_residual.result c.from_residual.ensures.1 in
+    p.1 ∙ ap Err (p.2 ∙ refused _ _ _ c.in_err-f.ensures.value) ∙ sym (faults_none a.k a.h _ (sym c.line_number.ensures ∙ c.in_err-f.ensures.ok_part))
 
-pub overflow_mul-faults : goal.overflow_mul-faults
-overflow_mul-faults c =
-    let a = c.args in
-    omega (arith, line_small faults_key a.line.now word_most _ (sym c.in-Value.is ∙ c.line_number.ensures))
+pub overflow_mul-f : goal.overflow_mul-f
+overflow_mul-f c =
+    omega (arith, line_small faults_key c.args.line.now word_most _ (sym c.in_ok-f.ensures.ok_part ∙ c.line_number.ensures))
 
-pub returns-then-h-faults : goal.returns-then-h-faults
-returns-then-h-faults c =
-    let a = c.args in
-    sym (faults_many a.k a.h _ _ (sym c.line_number.ensures
-    ∙ c.in-Value.is) (omega arith))
+pub returns-then-f-h : goal.returns-then-f-h
+returns-then-f-h c =
+    let a = c.args in sym (faults_few a.k a.h _ _ (sym c.line_number.ensures ∙ c.in_ok-f.ensures.ok_part) c.if-f-h.true)
 
-pub returns : goal.returns
-returns c =
-    let a = c.args in
-    sym (faults_few a.k a.h _ _ (sym c.line_number.ensures
-    ∙ c.in-Value.is) (omega arith))
+pub returns-else-f-h : goal.returns-else-f-h
+returns-else-f-h c =
+    let a = c.args in sym (faults_many a.k a.h _ _ (sym c.line_number.ensures ∙ c.in_ok-f.ensures.ok_part) c.if-f-h.false)

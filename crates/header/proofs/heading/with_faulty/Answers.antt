@@ -1,38 +1,21 @@
 -- No list, too many, or few enough.
-use mathlib.Core.Path.{sym}
-use native.Mathlib.Omega.{arith}
-use borrow.Author.Tests.{not-false, not-true}
-use lib.Seq.{length-take-le}
-use Rattle.text.proofs.Handed.{listed_room}
-use Rattle.header.proofs.Heads.{faulty_bad, faulty_few, faulty_many}
+use Rattle.std.proofs.Common.{◌∙◌, ap, Err, sym}
+use Rattle.std.proofs.lemmas.Result.{err_from_is_err_and}
+use Rattle.header.specs.Header.{mask_in}
+use Rattle.header.proofs.Heads.{faulty_bad, faulty_few, faulty_many, refused}
 use Rattle.header.proofs.heading.with_faulty.Goals as goal
 
-pub returns-then-not-listed : goal.returns-then-not-listed
-returns-then-not-listed c =
+pub returns-in_err-list : goal.returns-in_err-list
+returns-in_err-list c =
     let a = c.args in
-    sym (faulty_bad a.k a.h _ c.line_list-listed.result c.line_list-listed.ensures (not-true _ c.if-not-listed.true))
+    let p = err_from_is_err_and c.from_residual.result c.from_residual.ensures.1 in
+    p.1 ∙ ap Err (p.2 ∙ refused _ _ _ c.in_err-list.ensures.value) ∙ sym (faulty_bad a.k a.h _ (sym c.in_err-list.ensures.ok_part ∙ c.line_list.ensures))
 
-pub returns-then-h-count : goal.returns-then-h-count
-returns-then-h-count c =
-    let a = c.args in
-    sym (faulty_many a.k a.h _ c.line_list-listed.result c.line_list-listed.ensures
-    (not-false _ c.if-not-listed.false) c.if-h-count.true)
-
-pub slice_bounds-items-end : goal.slice_bounds-items-end
-slice_bounds-items-end c = omega (
-  arith,
-  listed_room _ c.line_list-listed.result
-      c.line_list-listed.ensures,
-)
-
-pub slice_bounds-mask_of-end : goal.slice_bounds-mask_of-end
-slice_bounds-mask_of-end c = sym (length-take-le c.line_list-listed.result.count
-    c.line_list-listed.result.items (listed_room _
-    c.line_list-listed.result c.line_list-listed.ensures))
+pub returns-then-h-list : goal.returns-then-h-list
+returns-then-h-list c =
+    let a = c.args in sym (faulty_many a.k a.h _ _ (sym c.in_ok-list.ensures.ok_part ∙ c.line_list.ensures) c.if-h-list.true)
 
 pub returns : goal.returns
 returns c =
     let a = c.args in
-    sym (faulty_few a.k a.h _ c.line_list-listed.result
-    c.line_list-listed.ensures (not-false _
-    c.if-not-listed.false) _ c.if-h-count.false c.mask_of.ensures)
+    sym (faulty_few a.k a.h _ _ (sym c.in_ok-list.ensures.ok_part ∙ c.line_list.ensures) _ c.if-h-list.false (c.mask_of-faulty.ensures ∙ ap mask_in c.in_use.ensures))

@@ -1,33 +1,17 @@
--- Before turn k no correct node below k has the log of node i.
-use mathlib.Core.Path.{sym, ◌∙◌}
-use native.Mathlib.Omega.{arith}
+-- The search goes over the numbers below i, and each is alike or not.
+use Rattle.std.proofs.Common.{◌≡◌, ℕ, Bool, List, true, false}
+use Rattle.std.proofs.lemmas.Iterator.{first_from_Range}
+use borrow.Author.Rules.{rules}
+use borrow.Author.Tests.{tests}
 use Rattle.outcome.specs.Signing.{has_bit}
-use Rattle.outcome.specs.Held.{held_at, log_in}
-use Rattle.outcome.proofs.Numbering.{none_yet, not_alike, alike_found, none_alike}
+use Rattle.outcome.specs.Held.{log_at}
+use Rattle.outcome.proofs.Numbering.{alike, first_is}
 use Rattle.outcome.proofs.marks.first_alike.Goals as goal
-
-pub loop-k-init : goal.loop-k-init
-loop-k-init c =
-    (omega arith, none_yet (has_bit c.args.faulty) (λ j. log_in (held_at c.args.logs j)) c.args.i)
-
-pub is_alike-requires : goal.is_alike-requires
-is_alike-requires c =
-    (omega arith, c.requires.0, c.requires.1)
-
-pub returns-then-is_alike : goal.returns-then-is_alike
-returns-then-is_alike c =
-    let a = c.args in
-    let l = c.loop-k in
-    alike_found (has_bit a.faulty) (λ j. log_in (held_at a.logs j)) a.i l.k l.invariant.1 (omega arith) (sym c.is_alike.ensures ∙ c.if-is_alike.true)
-
-pub loop-k-preserved : goal.loop-k-preserved
-loop-k-preserved c =
-    let a = c.args in
-    let l = c.loop-k in
-    (omega arith, not_alike (has_bit a.faulty) (λ j. log_in (held_at a.logs j)) a.i l.k l.invariant.1 (sym c.is_alike.ensures ∙ c.if-is_alike.false))
 
 pub returns : goal.returns
 returns c =
     let a = c.args in
-    let l = c.loop-k in
-    none_alike (has_bit a.faulty) (λ j. log_in (held_at a.logs j)) a.i l.k l.invariant.1 (omega arith)
+    let t : ℕ → Bool = has_bit a.header.faulty in
+    let log : ℕ → List ℕ = log_at a.logs.now in
+    let asks : ℕ → Bool = alike t log a.i in
+    first_is t log a.i _ (first_from_Range _ _ _ _ (λ k. asks k ≡ true) (λ k. asks k ≡ false) c.find.ensures.ran (λ x q k. search (rules, tests)) (λ x q k. search (rules, tests)))

@@ -1,10 +1,7 @@
-use Prim.Native.Nat.{◌-◌, ◌≤◌}
+-- Before turn i the logs of the correct nodes below i are numbered.
 use Rattle.outcome.specs.Signing.{has_bit}
-use Rattle.outcome.specs.Held.{held_at, log_in, Numbered}
+use Rattle.outcome.specs.Held.{log_at, Numbered}
 use Rattle.outcome.proofs.marks.number_all.Given as goal
 
 abbrev pub invariant-loop-i : goal.invariant-loop-i
-invariant-loop-i l = (l.i ≤ l.n) × Numbered (has_bit l.faulty) (λ j. log_in (held_at l.logs j)) l.i l.numbers
-
-abbrev pub decreases-loop-i : goal.decreases-loop-i
-decreases-loop-i l = l.n - l.i
+invariant-loop-i l = Numbered (has_bit l.header.faulty) (log_at l.logs) l.i l.numbers

@@ -1,45 +1,34 @@
 -- A faulty node adds no log; a correct one has the log of a node below, and its number, or the next number.
-use mathlib.Core.Path.{sym, ◌∙◌}
+use mathlib.Core.Path.{refl, sym, ◌∙◌}
 use native.Mathlib.Omega.{arith}
 use Rattle.outcome.specs.Signing.{has_bit}
-use Rattle.outcome.specs.Held.{held_at, log_in}
+use Rattle.outcome.specs.Held.{log_at}
 use Rattle.outcome.proofs.Numbering.{distinct_most, faulty_numbered, old_numbered, new_numbered}
 use Rattle.outcome.proofs.marks.with_number.Goals as goal
 
-pub returns-then-has_bit : goal.returns-then-has_bit
-returns-then-has_bit c =
+pub returns-then-is_faulty : goal.returns-then-is_faulty
+returns-then-is_faulty c =
     let a = c.args in
-    faulty_numbered (has_bit a.faulty) (λ j. log_in (held_at a.logs j)) a.i a.numbers c.requires.2 (sym c.has_bit.ensures ∙ c.if-has_bit.true)
+    faulty_numbered (has_bit a.header.faulty) (log_at a.logs.now) a.i a.numbers c.requires.1 (sym c.is_faulty.ensures ∙ c.if-is_faulty.true)
 
-pub first_alike-k-requires : goal.first_alike-k-requires
-first_alike-k-requires c =
-    (c.requires.0, c.requires.1)
-
-pub bounds-of-k : goal.bounds-of-k
-bounds-of-k c =
-    omega (arith, c.first_alike-k.ensures.most)
-
-pub returns-then-k-i : goal.returns-then-k-i
-returns-then-k-i c =
+pub overflow_cast-numbers : goal.overflow_cast-numbers
+overflow_cast-numbers c =
     let a = c.args in
-    let f = sym c.has_bit.ensures ∙ c.if-has_bit.false in
-    let k = c.first_alike-k in
-    old_numbered (has_bit a.faulty) (λ j. log_in (held_at a.logs j)) a.i a.numbers c.requires.2 f c.requires.0 k.result k.ensures (omega arith)
+    omega (arith, c.requires.1.count, distinct_most (has_bit a.header.faulty) (log_at a.logs.now) a.i)
 
-pub overflow_cast-of : goal.overflow_cast-of
-overflow_cast-of c =
+pub overflow_add-numbers : goal.overflow_add-numbers
+overflow_add-numbers c =
     let a = c.args in
-    omega (arith, c.requires.2.count, distinct_most (has_bit a.faulty) (λ j. log_in (held_at a.logs j)) a.i)
+    omega (arith, c.requires.1.count, distinct_most (has_bit a.header.faulty) (log_at a.logs.now) a.i)
 
-pub overflow_add-result : goal.overflow_add-result
-overflow_add-result c =
+pub returns-in-Some : goal.returns-in-Some
+returns-in-Some c =
     let a = c.args in
-    omega (arith, c.requires.2.count, distinct_most (has_bit a.faulty) (λ j. log_in (held_at a.logs j)) a.i)
+    let f = sym c.is_faulty.ensures ∙ c.if-is_faulty.false in
+    old_numbered (has_bit a.header.faulty) (log_at a.logs.now) a.i a.numbers c.requires.1 f c.requires.0 c.in-Some.k c.in-Some.ensures
 
-pub returns : goal.returns
-returns c =
+pub returns-in-None : goal.returns-in-None
+returns-in-None c =
     let a = c.args in
-    let f = sym c.has_bit.ensures ∙ c.if-has_bit.false in
-    let k = c.first_alike-k in
-    new_numbered (has_bit a.faulty) (λ j. log_in (held_at a.logs j)) a.i a.numbers c.requires.2 f c.requires.0 k.result k.ensures
-    (omega arith) _ (omega (arith, c.requires.2.count, distinct_most (has_bit a.faulty) (λ j. log_in (held_at a.logs j)) a.i))
+    let f = sym c.is_faulty.ensures ∙ c.if-is_faulty.false in
+    new_numbered (has_bit a.header.faulty) (log_at a.logs.now) a.i a.numbers c.requires.1 f c.requires.0 c.in-None.ensures _ refl

@@ -1,5 +1,5 @@
 -- Before turn k no send before the k-th breaks the rule, and the run stands before a round that is not after the k-th send's.
-use Prim.Native.Nat.{◌<◌}
+use Prim.Native.Nat.{◌<◌, ◌≤◌}
 use mathlib.Core.Path.{◌≡◌, sym, ap, ◌∙◌}
 use native.Mathlib.Omega.{arith}
 use lib.ListN.{length}
@@ -13,134 +13,109 @@ use Rattle.played.proofs.Sends.{send_at, sent_numbers, never_none, send_fits, se
 use Rattle.standing.proofs.Standings.{starts, stands_there, nodes_above, nodes_most_lem}
 use Rattle.played.proofs.Breaches.{at_first, breaks_here, breaks_later, none_left, rule_told, is_breach, is_played}
 use Rattle.played.proofs.playing.play_good.Goals as goal
-use Rattle.played.proofs.playing.play_good.Goals.{After-advance_to-before, After-breaks_send, In-Sent}
+use Rattle.played.proofs.playing.play_good.Goals.{After-advance_to-here, After-breaks_send, In-Some, Start}
+
+-- the sizes are small
+few : (c : goal.Start) → let h = c.args.run.now.header in (h.n ≤ 16) × (h.f < 16)
+few c =
+    let r = c.args.run.now in
+    let n = nodes_most_lem r.s.now r.header c.requires in
+    (omega arith, omega (arith, nodes_above r.s.now r.header c.requires))
 
 -- the k-th send is there
-inside : (c : goal.In-Sent) → c.loop-k.k < length (sends_of c.args.s.now)
-inside c = omega (arith, c.loop-k-test.true, c.send_count-count.ensures)
+inside : (c : goal.In-Some) → c.loop-k.k < length (sends_of c.args.run.now.s.now)
+inside c = omega (arith, c.loop-k-test.true, c.send_count-k-end.ensures)
 
 -- its numbers
-numbers : (c : goal.In-Sent)
-    → let x = send_at (sends_of c.args.s.now) c.loop-k.k in
-    (c.in-Sent.round ≡ x.round) × (c.in-Sent.from ≡ x.from) × (c.in-Sent.to ≡ x.to)
-numbers c = sent_numbers (sends_of c.args.s.now) c.loop-k.k _ _ _ (inside c) (sym c.in-Sent.is ∙ c.send_at.ensures)
+numbers : (c : goal.In-Some)
+    → let x = send_at (sends_of c.args.run.now.s.now) c.loop-k.k in
+    (c.in-Some.send.round ≡ x.round) × (c.in-Some.send.from ≡ x.from) × (c.in-Some.send.to ≡ x.to)
+numbers c = sent_numbers _ c.loop-k.k _ (inside c) (sym c.in-Some.is ∙ c.send_at.ensures)
 
 -- where the run stands before its round
-stands : (c : goal.After-advance_to-before)
-    → let a = c.args in
-    let x = send_at (sends_of a.s.now) c.loop-k.k in
-    c.loop-k.k < length (sends_of a.s.now) → c.in-Sent.round ≡ x.round → c.advance_to-before.result ≡ standing (hall_of a.s.now a.n a.f) c.in-Sent.round
+stands : (c : goal.After-advance_to-here)
+    → let r = c.args.run.now in
+    let x = send_at (sends_of r.s.now) c.loop-k.k in
+    c.loop-k.k < length (sends_of r.s.now) → c.in-Some.send.round ≡ x.round → c.advance_to-here.result ≡ standing (hall_of r.s.now r.header.n r.header.f) c.in-Some.send.round
 stands c there same =
-    let a = c.args in
     let l = c.loop-k in
-    c.advance_to-before.ensures
-    (record { form = c.requires; bits = c.faulty_mask-faulty.ensures; stands = l.invariant.2 })
-    (omega (arith, same, l.invariant.4 c.loop-k-test.true))
-    (omega (arith, same, (send_fits a.s.now a.n a.f c.requires l.k there).round_most))
+    c.advance_to-here.ensures
+    (record { form = c.requires; stands = l.invariant.stands })
+    (omega (arith, same, l.invariant.early there))
+    (omega (arith, same, (send_fits _ _ c.requires l.k there).round_most))
 
 -- what is answered of it is the rule's answer
 rule : (c : goal.After-breaks_send)
-    → let a = c.args in
-    let x = send_at (sends_of a.s.now) c.loop-k.k in
-    c.loop-k.k < length (sends_of a.s.now) → c.advance_to-before.result ≡ standing (hall_of a.s.now a.n a.f) c.in-Sent.round
-    → c.breaks_send.result ≡ breaks_rule (hall_of a.s.now a.n a.f) x.round x.message
+    → let r = c.args.run.now in
+    let hall = hall_of r.s.now r.header.n r.header.f in
+    let x = send_at (sends_of r.s.now) c.loop-k.k in
+    c.loop-k.k < length (sends_of r.s.now) → c.advance_to-here.result ≡ standing hall c.in-Some.send.round → c.breaks_send.result ≡ breaks_rule hall x.round x.message
 rule c there before =
-    let a = c.args in
-    rule_told a.s.now a.n a.f c.requires _ c.faulty_mask-faulty.ensures c.loop-k.k there _ _ _ (sym c.in-Sent.is ∙ c.send_at.ensures) c.advance_to-before.result
-    before _ c.breaks_send.ensures
+    rule_told _ _ c.requires c.loop-k.k there _ (sym c.in-Some.is ∙ c.send_at.ensures) c.advance_to-here.result before _
+    c.breaks_send.ensures
 
 pub loop-k-init : goal.loop-k-init
 loop-k-init c =
-    let a = c.args in
-    let hall = hall_of a.s.now a.n a.f in
+    let r = c.args.run.now in
+    let hall = hall_of r.s.now r.header.n r.header.f in
     let e = c.start-here.ensures ∙ starts hall in
     let z : c.start-here.result.next ≡ 0 = ap (λ (x : Standing). x.next) e in
-    (omega arith, at_first a.s.now a.n a.f c.requires, stands_there hall _ 0 e, omega (arith, z), λ l. omega (arith, z))
+    record {
+      rest = at_first _ _ c.requires;
+      stands = stands_there hall _ 0 e;
+      most = omega (arith, z);
+      early = λ l. omega (arith, z);
+    }
+
+pub unreachable-requires : goal.unreachable-requires
+unreachable-requires c =
+    never_none (sends_of c.args.run.now.s.now) c.loop-k.k (omega (arith, c.send_count-k-end.ensures)) (sym c.in_default.is ∙ c.send_at.ensures)
 
 pub breaks_send-requires : goal.breaks_send-requires
-breaks_send-requires c =
-    let a = c.args in
-    message_size a.s.now a.n a.f _ _ _ c.requires
+breaks_send-requires c = message_size _ _ _ _ _ c.requires
 
-pub overflow_add-n : goal.overflow_add-n
-overflow_add-n c =
-    let a = c.args in
-    record {
-      fits = omega (
-        arith,
-        nodes_most_lem a.s.now a.n a.f
-            c.requires,
-      );
-    }
+pub overflow_add-result-then-breaks_send : goal.overflow_add-result-then-breaks_send
+overflow_add-result-then-breaks_send c = record { fits = omega (arith, (few (goal.at.overflow_add-result-then-breaks_send c).Start).0) }
 
-pub overflow_add-n-then-breaks_send : goal.overflow_add-n-then-breaks_send
-overflow_add-n-then-breaks_send c =
-    let a = c.args in
-    record {
-      fits = omega (
-        arith,
-        nodes_most_lem a.s.now a.n a.f
-            c.requires,
-        nodes_above
-            a.s.now a.n a.f c.requires,
-        send_few a.s.now a.n a.f c.requires _ (inside (goal.at.overflow_add-n-then-breaks_send c).In-Sent),
-      );
-    }
+pub overflow_add-result-then-breaks_send-2 : goal.overflow_add-result-then-breaks_send-2
+overflow_add-result-then-breaks_send-2 c =
+    let at = goal.at.overflow_add-result-then-breaks_send-2 c in
+    let z = few at.Start in
+    record { fits = omega (arith, z.0, z.1, send_few _ _ c.requires _ (inside at.In-Some)) }
 
 pub returns-then-breaks_send : goal.returns-then-breaks_send
 returns-then-breaks_send c =
-    let a = c.args in
+    let r = c.args.run.now in
     let l = c.loop-k in
     let at = goal.at.returns-then-breaks_send c in
-    let there = inside at.In-Sent in
-    let breaks = rule at.After-breaks_send there (stands at.After-advance_to-before there (numbers at.In-Sent).0) in
-    is_breach a.s.now a.n a.f _ _ (l.invariant.1 ∙ breaks_here a.s.now a.n a.f l.k there _ breaks c.if-breaks_send.true) (omega arith) c.not_played.ensures
-
-pub returns-in-NoSend : goal.returns-in-NoSend
-returns-in-NoSend c =
-    let a = c.args in
-    let l = c.loop-k in
-    absurd (never_none (sends_of a.s.now) l.k (omega (arith, c.send_count-count.ensures))
-    (sym c.in-NoSend.is ∙ c.send_at.ensures))
-
-pub loop-k-smaller : goal.loop-k-smaller
-loop-k-smaller c = omega arith
+    let there = inside at.In-Some in
+    let breaks = rule at.After-breaks_send there (stands at.After-advance_to-here there (numbers at.In-Some).0) in
+    is_breach r.s.now r.header _ (l.invariant.rest ∙ breaks_here r.s.now r.header l.k there _ breaks c.if-breaks_send.true) (omega arith)
 
 pub loop-k-preserved : goal.loop-k-preserved
 loop-k-preserved c =
-    let a = c.args in
+    let r = c.args.run.now in
     let l = c.loop-k in
     let at = goal.at.loop-k-preserved c in
-    let there = inside at.In-Sent in
-    let q = numbers at.In-Sent in
-    let hall = hall_of a.s.now a.n a.f in
-    let e = stands at.After-advance_to-before there q.0 in
-    let z = ap (λ (x : Standing). x.next) e in (
-      omega arith,
-      l.invariant.1 ∙ breaks_later a.s.now a.n a.f l.k there _ (rule at.After-breaks_send there e) c.if-breaks_send.false,
-      stands_there hall _ _ e,
-      omega (arith, z, q.0, (send_fits a.s.now a.n a.f c.requires l.k there).round_most),
-      λ more. omega (arith, z, q.0, send_rounds a.s.now a.n a.f c.requires l.k (omega (arith, more, c.send_count-count.ensures))),
-    )
-
-pub overflow_add-f : goal.overflow_add-f
-overflow_add-f c =
-    let a = c.args in
+    let there = inside at.In-Some in
+    let same = (numbers at.In-Some).0 in
+    let e = stands at.After-advance_to-here there same in
+    let z = ap (λ (x : Standing). x.next) e in
     record {
-      fits = omega (
-        arith,
-        nodes_most_lem a.s.now a.n a.f c.requires,
-        nodes_above
-            a.s.now a.n a.f c.requires,
-      );
+      rest = l.invariant.rest ∙ breaks_later r.s.now r.header l.k there _ (rule at.After-breaks_send there e) c.if-breaks_send.false;
+      stands = stands_there (hall_of r.s.now r.header.n r.header.f) _ _ e;
+      most = omega (arith, z, same, (send_fits _ _ c.requires l.k there).round_most);
+      early = λ more. omega (arith, z, same, send_rounds _ _ c.requires l.k more);
     }
+
+pub overflow_add-run : goal.overflow_add-run
+overflow_add-run c = record { fits = omega (arith, (few (goal.at.overflow_add-run c).Start).1) }
 
 pub returns : goal.returns
 returns c =
-    let a = c.args in
+    let r = c.args.run.now in
     let l = c.loop-k in
-    let last = c.advance_to-last.ensures
-    (record { form = c.requires; bits = c.faulty_mask-faulty.ensures; stands = l.invariant.2 })
-    (omega (arith, l.invariant.3)) (omega arith) in
-    is_played a.s.now a.n a.f _ (l.invariant.1 ∙ none_left a.s.now a.n a.f l.k
-    (omega (arith, c.send_count-count.ensures))) last
+    let last = c.advance_to.ensures
+    (record { form = c.requires; stands = l.invariant.stands })
+    (omega (arith, l.invariant.most)) (omega arith) in
+    is_played r.s.now r.header _ (l.invariant.rest ∙ none_left r.s.now r.header l.k (omega (arith, c.send_count-k-end.ensures))) last

@@ -1,25 +1,23 @@
 -- The first item, and the others with their commas.
-use mathlib.Core.Path.{ap, sym}
-use native.Mathlib.Omega.{arith}
+use Rattle.std.proofs.Common.{ap, sym, ◌∙◌, arith}
 use borrow.Author.Tests.{le-leb, lt-leb}
 use lib.ListN.{length}
 use Rattle.print.specs.Texts.{list_text}
 use Rattle.print.proofs.Printing.{fits_rest, list_length, list_none}
 use Rattle.print.proofs.sizes.list_fits.Goals as goal
 
-pub returns-then-xs-eq0 : goal.returns-then-xs-eq0
-returns-then-xs-eq0 c =
+pub returns-in_default : goal.returns-in_default
+returns-in_default c =
     let a = c.args in
-    sym (le-leb (length (list_text a.kind a.xs.now)) a.room (omega (arith, ap length (list_none a.kind a.xs.now c.if-xs-eq0.true))))
+    sym (le-leb (length (list_text a.kind a.xs.now)) a.room (omega (arith, ap length (list_none a.kind a.xs.now c.in_default.ensures.cases))))
 
-pub returns-then-room-first : goal.returns-then-room-first
-returns-then-room-first c =
+pub returns-then-size-room : goal.returns-then-size-room
+returns-then-size-room c =
     let a = c.args in
-    let e = list_length a.kind a.xs.now c.if-xs-eq0.false in
-    sym (lt-leb (length (list_text a.kind a.xs.now)) a.room (omega (arith, e, c.item_size-first.ensures.0)))
+    fits_rest a.kind _ _ c.in-Some.ensures.cases.0 a.room _ c.item_size-size.ensures.0 (omega arith) c.more_fits.ensures
 
-pub returns : goal.returns
-returns c =
+pub returns-else-size-room : goal.returns-else-size-room
+returns-else-size-room c =
     let a = c.args in
-    fits_rest a.kind a.xs.now a.room _ c.if-xs-eq0.false
-    c.item_size-first.ensures.0 (omega arith) c.more_fits.ensures
+    lt-leb c.item_size-size.result a.room (omega arith)
+    ∙ sym (lt-leb (length (list_text a.kind a.xs.now)) a.room (omega (arith, list_length a.kind _ _ c.in-Some.ensures.cases.0, c.item_size-size.ensures.0)))

@@ -1,10 +1,7 @@
-use Prim.Native.Nat.{◌-◌, ◌≤◌}
+-- Before turn j the nodes below j whose bit is set are listed.
 use Rattle.outcome.specs.Signing.{has_bit}
-use Rattle.report.specs.Listing.{Lists}
+use Rattle.report.proofs.Counting.{Listed}
 use Rattle.report.proofs.listing.nodes_in.Given as goal
 
 abbrev pub invariant-loop-j : goal.invariant-loop-j
-invariant-loop-j l = (l.j ≤ l.n) × Lists (has_bit l.mask) l.j l.listing
-
-abbrev pub decreases-loop-j : goal.decreases-loop-j
-decreases-loop-j l = l.n - l.j
+invariant-loop-j l = Listed (has_bit l.mask) l.j l.nodes

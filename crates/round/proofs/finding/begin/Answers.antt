@@ -1,22 +1,12 @@
--- Before turn p the places below p hold what is kept for their primaries, and no masks.
-use mathlib.Core.Path.{◌≡◌, refl, ◌∙◌}
-use native.Mathlib.Omega.{arith}
-use lib.ListN.{length-set}
-use Rattle.round.proofs.Starts.{one_filled, all_filled}
+-- Each place holds what is kept for its primary, and no masks.
+use Rattle.std.proofs.Common.{◌≡◌, [], length, rules}
+use Rattle.node.specs.State.{kept_at}
+use Rattle.round.proofs.Mapped.{mapped}
+use Rattle.round.proofs.Starts.{bare, all_bare}
 use Rattle.round.proofs.finding.begin.Goals as goal
-
-pub loop-p-init : goal.loop-p-init
-loop-p-init c = (omega arith, refl, λ i h. absurd (omega arith))
-
-pub loop-p-preserved : goal.loop-p-preserved
-loop-p-preserved c =
-    let a = c.args in
-    let l = c.loop-p in
-    (omega arith, length-set l.found l.p _ ∙ l.invariant.1, one_filled a.kept l.found l.p (omega arith) l.invariant.2)
 
 pub returns : goal.returns
 returns c =
-    let a = c.args in
-    let l = c.loop-p in
-    let all : l.p ≡ 16 = omega arith in
-    all_filled a.kept l.found l.invariant.1 (rw all at l.invariant.2)
+    let size : length c.args.kept ≡ 16 = search rules in
+    all_bare c.args.kept c.map.result
+    (mapped bare _ (kept_at [] 0) _ c.args.kept c.map.result 16 size c.map.ensures.items (λ x y p q k. search rules))

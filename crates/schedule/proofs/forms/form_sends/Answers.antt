@@ -1,73 +1,89 @@
--- The answer for the whole is the answer for the lines from `at` on, of which the first is line k.
-use mathlib.Core.Path.{◌∙◌, ap, refl, sym}
-use native.Mathlib.Omega.{arith}
-use Rattle.text.proofs.Cuts.{Turn, line_last, line_not_last, lines_past, turn}
+-- The answer for the whole is the answer for the lines that are left, of which the first is line k.
+use Rattle.std.proofs.Common.{◌≡◌, ◌+◌, ◌∙◌, Err, List, Option, ap, arith, length, length-drop, sym, unwrap_or, ℕ}
+use Rattle.std.proofs.lemmas.Result.{err_from_is_err_and}
+use Rattle.header.proofs.Heads.{refused}
+use borrow.Author.Tests.{eqb-false, eqb-true}
+use Rattle.laws.proofs.Lent.{rest_of}
+use Rattle.text.specs.Lines.{lines_of}
+use Rattle.text.proofs.Cuts.{Turn, lines_none, lines_some, turn}
 use Rattle.schedule.specs.Forms.{form_sends}
 use Rattle.schedule.proofs.Turns.{sends_bad, sends_end, sends_go, sends_good, sends_more}
 use Rattle.schedule.proofs.forms.form_sends.Goals as goal
 use Rattle.schedule.proofs.forms.form_sends.Goals.{After-first_line-line}
 
 -- the line that is read
-here : (c : goal.After-first_line-line)
-    → Turn c.args.s.now c.first_line-line.result.now c.loop-at.at
-here c = turn _ _ _ c.loop-at-test.true c.first_line-line.ensures
+here : (c : goal.After-first_line-line) → Turn c.loop-rest.rest.now c.first_line-line.result.now
+here c =
+    let some : length c.loop-rest.rest.now ≡ 0 → ⊥ = eqb-false _ _ (sym c.loop-rest-test.ensures) in
+    turn _ _ (omega arith) c.first_line-line.ensures
 
-pub overflow_add-k : goal.overflow_add-k
-overflow_add-k c = omega (arith, c.requires)
+pub slice_bounds-after-count : goal.slice_bounds-after-count
+slice_bounds-after-count c = (here c).fits
 
-pub overflow_add-k-2 : goal.overflow_add-k-2
-overflow_add-k-2 c = omega (arith, c.requires)
+pub slice_bounds-after-start : goal.slice_bounds-after-start
+slice_bounds-after-start c = let t = (here (goal.at.slice_bounds-after-start c).After-first_line-line).fits in omega arith
 
-pub loop-at-init : goal.loop-at-init
-loop-at-init c = (omega arith, omega (arith, c.requires), refl)
-
-pub returns-then-rest-line : goal.returns-then-rest-line
-returns-then-rest-line c =
+pub returns-then-is_empty : goal.returns-then-is_empty
+returns-then-is_empty c =
     let a = c.args in
-    let l = c.loop-at in
-    let turn = here (goal.at.returns-then-rest-line c).After-first_line-line in
-    let last = line_last a.s.now _ l.at (omega arith) c.first_line-line.ensures c.if-rest-line.true in
-    sym (l.invariant.2 ∙ ap (form_sends a.h l.k l.last) turn.next ∙ sends_good a.h l.k l.last _ _ (sym c.is_end.ensures
-    ∙ c.if-is_end.true) last)
+    let l = c.loop-rest in
+    let t = here (goal.at.returns-then-is_empty c).After-first_line-line in
+    let none = lines_none _ (eqb-true _ _ (sym c.if-is_empty.ensures)) in
+    sym (l.invariant.left ∙ ap (form_sends a.h l.k l.last) t.next
+    ∙ sends_good a.h l.k l.last _ _ (sym c.if-is_end.ensures) (ap length (ap lines_of (sym (rest_of l.rest.now _)) ∙ none)))
 
-pub returns-then-is_end : goal.returns-then-is_end
-returns-then-is_end c =
+pub returns-else-is_empty : goal.returns-else-is_empty
+returns-else-is_empty c =
     let a = c.args in
-    let l = c.loop-at in
-    let turn = here (goal.at.returns-then-is_end c).After-first_line-line in
-    let more = line_not_last a.s.now _ l.at (omega arith) c.first_line-line.ensures c.if-rest-line.false in
-    sym (l.invariant.2 ∙ ap (form_sends a.h l.k l.last) turn.next ∙ sends_more a.h l.k l.last _ _ (sym c.is_end.ensures
-    ∙ c.if-is_end.true) more)
+    let l = c.loop-rest in
+    let t = here (goal.at.returns-else-is_empty c).After-first_line-line in
+    let some = eqb-false _ _ (sym c.if-is_empty.ensures) in
+    sym (l.invariant.left ∙ ap (form_sends a.h l.k l.last) t.next
+    ∙ sends_more a.h l.k l.last _ _ (sym c.if-is_end.ensures) (lines_some _ (omega (arith, ap length (rest_of l.rest.now (length c.first_line-line.result.now))))))
+
+pub returns-in_err-rank : goal.returns-in_err-rank
+returns-in_err-rank c =
+    let a = c.args in
+    let l = c.loop-rest in
+    let t = here (goal.at.returns-in_err-rank c).After-first_line-line in
+    let p = err_from_is_err_and c.from_residual.result c.from_residual.ensures.1 in
+    let rank = sym (ap (λ (o : Option ℕ). unwrap_or o 0) c.in_err-rank.ensures.ok_part) ∙ c.send_rank.ensures in
+    p.1 ∙ ap Err (p.2 ∙ refused _ _ _ c.in_err-rank.ensures.value)
+    ∙ sym (l.invariant.left ∙ ap (form_sends a.h l.k l.last) t.next ∙ sends_bad a.h l.k l.last _ _ 0 rank (sym c.if-is_end.ensures) (omega arith))
 
 pub returns-then-rank-last : goal.returns-then-rank-last
 returns-then-rank-last c =
     let a = c.args in
-    let l = c.loop-at in
-    let turn = here (goal.at.returns-then-rank-last c).After-first_line-line in
-    sym (l.invariant.2 ∙ ap (form_sends a.h l.k l.last) turn.next
-    ∙ sends_bad a.h l.k l.last _ _ _ c.send_rank-rank.ensures (sym c.is_end.ensures
-    ∙ c.if-is_end.false) (omega arith))
+    let l = c.loop-rest in
+    let t = here (goal.at.returns-then-rank-last c).After-first_line-line in
+    sym (l.invariant.left ∙ ap (form_sends a.h l.k l.last) t.next
+    ∙ sends_bad a.h l.k l.last _ _ _ (sym (ap (λ (o : Option ℕ). unwrap_or o 0) c.in_ok-rank.ensures.ok_part) ∙ c.send_rank.ensures) (sym c.if-is_end.ensures) c.if-rank-last.true)
 
-pub overflow_add-at : goal.overflow_add-at
-overflow_add-at c = omega (arith, (here (goal.at.overflow_add-at c).After-first_line-line).fits)
+pub loop-rest-smaller : goal.loop-rest-smaller
+loop-rest-smaller c =
+    let t = here (goal.at.loop-rest-smaller c).After-first_line-line in
+    let f = t.fits in let g = t.further in let n = length c.first_line-line.result.now in
+    omega (arith, ap length (rest_of c.loop-rest.rest.now n), length-drop n c.loop-rest.rest.now)
 
-pub loop-at-smaller : goal.loop-at-smaller
-loop-at-smaller c = omega (arith, (here (goal.at.loop-at-smaller c).After-first_line-line).further)
-
-pub loop-at-preserved : goal.loop-at-preserved
-loop-at-preserved c =
+pub loop-rest-preserved : goal.loop-rest-preserved
+loop-rest-preserved c =
     let a = c.args in
-    let l = c.loop-at in
-    let turn = here (goal.at.loop-at-preserved c).After-first_line-line in (
-      turn.fits,
-      omega (arith, turn.further),
-      l.invariant.2 ∙ ap (form_sends a.h l.k l.last) turn.next
-          ∙ sends_go a.h l.k l.last _ _ _ c.send_rank-rank.ensures (sym c.is_end.ensures
-          ∙ c.if-is_end.false) (omega arith),
-    )
+    let l = c.loop-rest in
+    let t = here (goal.at.loop-rest-preserved c).After-first_line-line in
+    let f = t.fits in let g = t.further in
+    record {
+      few =
+          let h = l.invariant.few in
+          let n = length c.first_line-line.result.now in
+          omega (arith, ap length (rest_of l.rest.now n), length-drop n l.rest.now);
+      left =
+          l.invariant.left ∙ ap (form_sends a.h l.k l.last) t.next
+          ∙ sends_go a.h l.k l.last _ _ _ (sym (ap (λ (o : Option ℕ). unwrap_or o 0) c.in_ok-rank.ensures.ok_part) ∙ c.send_rank.ensures) (sym c.if-is_end.ensures) c.if-rank-last.false
+          ∙ ap (λ (u : List ℕ). form_sends a.h (l.k + 1) c.in_ok-rank.rank (lines_of u)) (sym (rest_of l.rest.now _));
+    }
 
 pub returns : goal.returns
 returns c =
     let a = c.args in
-    let l = c.loop-at in
-    sym (l.invariant.2 ∙ sends_end a.h l.k l.last _ (lines_past a.s.now l.at c.loop-at-test.false))
+    let l = c.loop-rest in
+    sym (l.invariant.left ∙ sends_end a.h l.k l.last _ (lines_none l.rest.now (eqb-true _ _ (sym c.loop-rest-test.ensures))))

@@ -1,38 +1,28 @@
 -- Three numbers, each read behind the one before.
-use mathlib.Core.Path.{◌∙◌, sym}
+use Rattle.std.proofs.Common.{◌∙◌, sym}
 use Rattle.schedule.specs.Sends.{send_in}
 use Rattle.schedule.proofs.Fits.{send_one, send_three, send_two, send_whole, sending_none, sending_some}
 use Rattle.schedule.proofs.sends.read_value.Goals as goal
 
-pub returns-in_default : goal.returns-in_default
-returns-in_default c =
-    let v = c.args.v.now in
-    sending_none (send_in v) (send_one v (sym c.in_default.ensures))
+pub returns-in_err-round : goal.returns-in_err-round
+returns-in_err-round c =
+    let v = c.args.v.now in c.from_residual.ensures ∙ sending_none (send_in v) (send_one v (sym c.in_err-round.ensures))
 
-pub returns-in_default-read_field : goal.returns-in_default-read_field
-returns-in_default-read_field c =
+pub returns-in_err-from : goal.returns-in_err-from
+returns-in_err-from c =
     let v = c.args.v.now in
-    let r = sym c.read_field.ensures
-    ∙ c.in-Value.is in
-    sending_none (send_in v) (send_two v _ c.past-after.ensures _ r (sym c.read_field-2.ensures
-    ∙ c.in_default-read_field.is))
+    c.from_residual-in_err-from.ensures
+    ∙ sending_none (send_in v) (send_two v _ c.past-after.ensures _ (sym c.in_ok-round.ensures) (sym c.in_err-from.ensures))
 
-pub returns-in_default-read_field-2 : goal.returns-in_default-read_field-2
-returns-in_default-read_field-2 c =
+pub returns-in_err-to : goal.returns-in_err-to
+returns-in_err-to c =
     let v = c.args.v.now in
-    let r = sym c.read_field.ensures
-    ∙ c.in-Value.is in
-    let i = sym c.read_field-2.ensures
-    ∙ c.in-Value-read_field.is in
-    sending_none (send_in v) (send_three v _ c.past-after.ensures _ r _
-    c.past.ensures _ i (sym c.in_default-read_field-2.ensures))
+    c.from_residual-in_err-to.ensures
+    ∙ sending_none (send_in v) (send_three v _ c.past-after.ensures _ (sym c.in_ok-round.ensures) _ c.past.ensures _ (sym c.in_ok-from.ensures)
+    (sym c.in_err-to.ensures))
 
 pub returns : goal.returns
 returns c =
     let v = c.args.v.now in
-    let r = sym c.read_field.ensures
-    ∙ c.in-Value.is in
-    let i = sym c.read_field-2.ensures
-    ∙ c.in-Value-read_field.is in
-    sending_some (send_in v) _ (send_whole v _ c.past-after.ensures _ r _
-    c.past.ensures _ i _ (sym c.in-Value-read_field-2.ensures))
+    sending_some (send_in v) _ (send_whole v _ c.past-after.ensures _ (sym c.in_ok-round.ensures) _ c.past.ensures _ (sym c.in_ok-from.ensures) _
+    (sym c.in_ok-to.ensures))

@@ -1,16 +1,10 @@
 -- Without the byte there is no field; else the number before it.
-use mathlib.Core.Path.{◌∙◌, sym}
-use native.Mathlib.Omega.{arith}
-use lib.Seq.{length-take-le}
+use Rattle.std.proofs.Common.{arith, sym, ◌∙◌}
 use Rattle.text.proofs.Digits.{field_none, field_some}
 use Rattle.text.proofs.decimal.read_field.Goals as goal
 
 pub returns-then-s-k : goal.returns-then-s-k
 returns-then-s-k c = sym (field_none _ _ _ _ c.place-k.ensures c.if-s-k.true)
-
-pub slice_bounds-read_number-end : goal.slice_bounds-read_number-end
-slice_bounds-read_number-end c = sym (length-take-le c.place-k.result c.args.s.now
-    (omega arith))
 
 pub returns : goal.returns
 returns c =

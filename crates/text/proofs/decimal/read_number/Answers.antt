@@ -1,31 +1,35 @@
 -- The number of the whole is that of the digits that are left after v.
-use mathlib.Core.Path.{◌∙◌, sym}
-use native.Mathlib.Omega.{arith}
+use Rattle.std.proofs.Common.{arith, sym, ◌∙◌}
+use borrow.Author.Tests.{eqb-false, eqb-true}
 use Rattle.text.proofs.Digits.{number_end, number_go, number_none, number_over, number_start, number_stop, number_zero}
+use Rattle.text.proofs.decimal.read_number.Goals.{then-is_empty-via-then-is_empty, then-is_empty-via-else-is_empty+then-leading_zero}
 use Rattle.text.proofs.decimal.read_number.Goals as goal
 
-pub returns-then-s-eq0 : goal.returns-then-s-eq0
-returns-then-s-eq0 c = sym (number_none _ _ c.if-s-eq0.true)
+pub returns-then-is_empty : goal.returns-then-is_empty
+returns-then-is_empty c = elim c.then-is_empty.branch [
+  | then-is_empty-via-then-is_empty w ↦ sym (number_none c.args.most c.args.s.now (eqb-true _ _ (sym w.if-is_empty.ensures)))
+  | then-is_empty-via-else-is_empty+then-leading_zero w ↦ sym (number_zero c.args.most c.args.s.now (sym w.if-leading_zero.ensures))
+]
 
-pub returns-then-leading_zero : goal.returns-then-leading_zero
-returns-then-leading_zero c = sym (number_zero _ _ (sym c.leading_zero.ensures ∙ c.if-leading_zero.true))
+pub loop-b-init : goal.loop-b-init
+loop-b-init c = record {
+  few = omega arith;
+  left = number_start _ _ (eqb-false _ _ (sym c.if-is_empty.ensures)) (sym c.if-leading_zero.ensures);
+}
 
-pub loop-i-init : goal.loop-i-init
-loop-i-init c = (omega arith, omega arith, number_start _ _ c.if-s-eq0.false (sym c.leading_zero.ensures ∙ c.if-leading_zero.false))
+pub returns-in_err-v : goal.returns-in_err-v
+returns-in_err-v c =
+    c.from_residual.ensures ∙ sym (c.loop-b.invariant.left ∙ number_stop _ _ _ _ c.loop-b-test.true (sym c.in_err-v.ensures))
 
-pub returns-then-d-ge10 : goal.returns-then-d-ge10
-returns-then-d-ge10 c = sym (c.loop-i.invariant.2
-    ∙ number_stop _ _ _ _ _ c.digit-d.ensures.0 c.loop-i-test.true c.if-d-ge10.true)
+pub returns-then-most-v : goal.returns-then-most-v
+returns-then-most-v c =
+    let go = number_go _ _ _ _ c.loop-b-test.true _ (sym c.in_ok-v.ensures) in
+    sym (c.loop-b.invariant.left ∙ go ∙ number_over _ _ _ c.if-most-v.true)
 
-pub returns-then-limit-next : goal.returns-then-limit-next
-returns-then-limit-next c =
-    let go = number_go _ _ _ _ _ c.digit-d.ensures.0 c.loop-i-test.true (omega arith) in
-    sym (c.loop-i.invariant.2 ∙ go ∙ number_over _ _ _ c.if-limit-next.true)
-
-pub loop-i-preserved : goal.loop-i-preserved
-loop-i-preserved c =
-    let go = number_go _ _ _ _ _ c.digit-d.ensures.0 c.loop-i-test.true (omega arith) in
-    (omega arith, omega arith, c.loop-i.invariant.2 ∙ go)
+pub loop-b-preserved : goal.loop-b-preserved
+loop-b-preserved c =
+    let go = number_go _ _ _ _ c.loop-b-test.true _ (sym c.in_ok-v.ensures) in
+    record { few = omega arith; left = c.loop-b.invariant.left ∙ go }
 
 pub returns : goal.returns
-returns c = sym (c.loop-i.invariant.2 ∙ number_end _ _ _ _ c.loop-i-test.false c.loop-i.invariant.1)
+returns c = sym (c.loop-b.invariant.left ∙ number_end _ _ _ _ c.loop-b-test.false c.loop-b.invariant.few)

@@ -1,58 +1,47 @@
--- The bytes of the pairs before `at` are written; the digits that are left say the rest.
-use native.Mathlib.Omega.{arith}
-use Rattle.text.proofs.Pairs.{hex_byte, hex_done, hex_room, hex_turn, hexed_start}
+-- The bytes of the pairs so far are written; the digits that are left say the rest.
+use Rattle.std.proofs.Common.{◌∙◌, ap, arith, sym}
+use Rattle.text.proofs.Pairs.{hex_byte, hex_done, hex_high, hex_low, hex_turn, hexed_start, some_there}
 use Rattle.text.proofs.hex.pairs_into.Goals as goal
 
-pub loop-at-init : goal.loop-at-init
-loop-at-init c = hexed_start _ _ c.requires.0 c.requires.1
+pub loop-i-init : goal.loop-i-init
+loop-i-init c =
+    let e = c.into_iter-i-iterator.ensures.into_iter_gives in
+    let source = ap (λ it. it.iter) e ∙ c.enumerate-i-items.ensures.source in
+    record {
+      hexed = hexed_start _ _ _ _ (ap (λ it. it.count) e ∙ c.enumerate-i-items.ensures.count) (ap (λ it. it.rest.now) source ∙ c.chunks_exact.ensures.rest)
+          c.requires.0 c.requires.1;
+      two = ap (λ it. it.size) source ∙ c.chunks_exact.ensures.size;
+    }
 
-pub overflow_sub-s : goal.overflow_sub-s
-overflow_sub-s c = c.loop-at.invariant.inside
+pub unwrap-high-requires : goal.unwrap-high-requires
+unwrap-high-requires c =
+    let l = c.loop-i in let t = c.in-Some.ensures.steps in
+    some_there (c.digit.ensures ∙ hex_high _ _ _ _ _ l.invariant.hexed _ _ t.0.1.0 (t.0.1.1 ∙ l.invariant.two))
 
-pub bounds-s-at : goal.bounds-s-at
-bounds-s-at c = omega (arith, c.loop-at.invariant.inside)
-
-pub overflow_add-at : goal.overflow_add-at
-overflow_add-at c = omega (arith, c.loop-at.invariant.inside)
-
-pub bounds-s-at-in-loop-at : goal.bounds-s-at-in-loop-at
-bounds-s-at-in-loop-at c = omega (arith, c.loop-at.invariant.inside)
+pub unwrap-low-requires : goal.unwrap-low-requires
+unwrap-low-requires c =
+    let l = c.loop-i in let t = c.in-Some.ensures.steps in
+    some_there (c.digit-in-loop-i.ensures ∙ hex_low _ _ _ _ _ l.invariant.hexed _ _ t.0.1.0 (t.0.1.1 ∙ l.invariant.two))
 
 pub overflow_cast-output : goal.overflow_cast-output
 overflow_cast-output c =
-    let l = c.loop-at in
-    let a = c.args in
-    let inside = l.invariant.inside in
+    let l = c.loop-i in let t = c.in-Some.ensures.steps in
     omega (
       arith,
-      hex_byte a.s.now a.output.now l.output l.i l.at l.invariant (omega arith) _ _
-          c.digit-high.ensures.0 c.digit-low.ensures.0,
+      hex_byte _ _ _ _ _ l.invariant.hexed _ _ t.0.1.0 (t.0.1.1 ∙ l.invariant.two) c.unwrap-high.result c.unwrap-low.result
+          (sym c.digit.ensures ∙ c.unwrap-high.ensures) (sym c.digit-in-loop-i.ensures ∙ c.unwrap-low.ensures),
     )
 
-pub bounds-output-i : goal.bounds-output-i
-bounds-output-i c =
-    let l = c.loop-at in
-    let a = c.args in
-    let inside = l.invariant.inside in
-    hex_room a.s.now a.output.now l.output l.i l.at l.invariant (omega arith)
-
-pub overflow_add-i : goal.overflow_add-i
-overflow_add-i c =
-    let l = c.loop-at in
-    let a = c.args in
-    let inside = l.invariant.inside in
-    omega (arith, hex_room a.s.now a.output.now l.output l.i l.at l.invariant (omega arith))
-
-pub loop-at-smaller : goal.loop-at-smaller
-loop-at-smaller c = omega (arith, c.loop-at.invariant.inside)
-
-pub loop-at-preserved : goal.loop-at-preserved
-loop-at-preserved c =
-    let l = c.loop-at in
-    let a = c.args in
-    let inside = l.invariant.inside in
-    hex_turn a.s.now a.output.now l.output l.i l.at l.invariant (omega arith) _ _ c.digit-high.ensures.0
-    c.digit-low.ensures.0
+pub loop-i-preserved : goal.loop-i-preserved
+loop-i-preserved c =
+    let l = c.loop-i in let t = c.in-Some.ensures.steps in
+    record {
+      hexed = rw (t.1, t.2) (hex_turn _ _ _ _ _ l.invariant.hexed _ _ t.0.1.0 (t.0.1.1 ∙ l.invariant.two) _ _
+          (sym c.digit.ensures ∙ c.unwrap-high.ensures) (sym c.digit-in-loop-i.ensures ∙ c.unwrap-low.ensures));
+      two = t.0.0 ∙ l.invariant.two;
+    }
 
 pub returns : goal.returns
-returns c = hex_done _ _ _ _ _ c.loop-at.invariant (omega arith)
+returns c =
+    let l = c.loop-i in
+    hex_done _ _ _ _ _ l.invariant.hexed (omega (arith, l.invariant.two, c.in-None.ensures.steps.0.1.0))

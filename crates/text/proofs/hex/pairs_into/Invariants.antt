@@ -1,10 +1,9 @@
-use Prim.Native.Nat.{◌-◌}
-use lib.ListN.{length}
+use Rattle.std.proofs.Common.{◌≡◌}
 use Rattle.text.proofs.Pairs.{Hexed}
 use Rattle.text.proofs.hex.pairs_into.Given as goal
 
-abbrev pub invariant-loop-at : goal.invariant-loop-at
-invariant-loop-at l = Hexed l.s l.initial.output l.output l.i l.at
-
-abbrev pub decreases-loop-at : goal.decreases-loop-at
-decreases-loop-at l = length l.s - l.at
+abbrev pub invariant-loop-i : goal.invariant-loop-i
+invariant-loop-i l = record {
+  hexed : Hexed l.s l.initial.output l.output l.i-iterator.count l.i-iterator.iter.rest.now;
+  two : l.i-iterator.iter.size ≡ 2;
+}

@@ -6,5 +6,5 @@ use Rattle.text.proofs.line.line_len.Goals as goal
 pub returns-then-k-s : goal.returns-then-k-s
 returns-then-k-s c = sym (len_some c.args.s.now _ c.place-k.ensures c.if-k-s.true)
 
-pub returns : goal.returns
-returns c = sym (len_all c.args.s.now _ c.place-k.ensures c.if-k-s.false)
+pub returns-else-k-s : goal.returns-else-k-s
+returns-else-k-s c = sym (len_all c.args.s.now _ c.place-k.ensures c.if-k-s.false)

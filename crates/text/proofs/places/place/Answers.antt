@@ -1,22 +1,14 @@
--- No byte before place i is c: the place in the whole is i and the place in the rest.
-use mathlib.Core.Path.{◌∙◌, sym}
-use native.Mathlib.Nat.{zero-add}
-use native.Mathlib.Omega.{arith}
-use Rattle.text.proofs.Scan.{place_end, place_here, place_on}
+-- The first place that `position` finds, or the length.
+use Rattle.std.proofs.Common.{eqb, rules, sym, ◌∙◌, ap, length, Option, ℕ, unwrap_or}
+use Rattle.std.proofs.lemmas.Iterator.{YieldsList-from_slice}
+use Rattle.std.proofs.lemmas.Iterator.Search.{position_from_yields_List}
+use borrow.Author.Tests.{tests}
+use Rattle.text.proofs.Scan.{place_first}
 use Rattle.text.proofs.places.place.Goals as goal
 
-pub loop-i-init : goal.loop-i-init
-loop-i-init c = (omega arith, sym (zero-add _))
-
-pub returns-then-s-i : goal.returns-then-s-i
-returns-then-s-i c =
-    let l = c.loop-i in
-    sym (l.invariant.1 ∙ place_here _ _ _ c.loop-i-test.true c.if-s-i.true)
-
-pub loop-i-preserved : goal.loop-i-preserved
-loop-i-preserved c =
-    let l = c.loop-i in
-    (omega arith, l.invariant.1 ∙ place_on _ _ _ c.loop-i-test.true c.if-s-i.false)
-
 pub returns : goal.returns
-returns c = sym (c.loop-i.invariant.1 ∙ place_end _ _ _ c.loop-i-test.false)
+returns c =
+    let a = c.args in
+    let found = position_from_yields_List (λ (b : ℕ). eqb b a.c) _ _ c.position.result c.position.ensures.ran
+    (YieldsList-from_slice _ c.iter.ensures.rest) (λ x b q k. search (rules, tests)) in
+    c.unwrap_or.ensures ∙ ap (λ (o : Option ℕ). unwrap_or o (length a.s.now)) found ∙ sym (place_first a.c a.s.now)
