@@ -4,7 +4,9 @@ use Rattle.laws.specs.Members.{holds}
 use Rattle.text.specs.Lines.{lines_of, list_line}
 use Rattle.text.specs.declared.Kind.TheVariants.{Below, Entry}
 use Rattle.text.specs.Hex.{hex_of}
-use Rattle.header.specs.Keys.{Key, Nodes, Faults, Faulty, faulty_key}
+use Rattle.header.specs.Keys.{faulty_key}
+use Rattle.header.specs.declared.Key.{Key}
+use Rattle.header.specs.declared.Key.TheVariants.{Nodes, Faults, Faulty}
 use Rattle.schedule.specs.Keys.{tray_key}
 use Rattle.header.specs.Header.{header_keys, header_size, headed_of, no_header}
 use Rattle.schedule.specs.Sends.{Send, send_of, sending_as}

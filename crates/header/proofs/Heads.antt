@@ -20,7 +20,8 @@ use Rattle.text.specs.Numbers.{word_most}
 use Rattle.text.specs.declared.Kind.TheVariants.{Below}
 use Rattle.text.proofs.Handed.{listed_none, listed_room, listed_some}
 use Rattle.header.specs.Header.{and_then, bad, head_from, headed_of, mask_in, no_header, with_faults, with_faulty, with_line, with_nodes}
-use Rattle.header.specs.Keys.{Faults, Faulty, Nodes, faults_key, faulty_key, nodes_key}
+use Rattle.header.specs.Keys.{faults_key, faulty_key, nodes_key}
+use Rattle.header.specs.declared.Key.TheVariants.{Faults, Faulty, Nodes}
 use Rattle.header.specs.declared.BadLine.{BadLine}
 use Rattle.header.specs.declared.Header.{Header}
 

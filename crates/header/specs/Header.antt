@@ -6,7 +6,9 @@ use Rattle.rules.specs.Sizes.{nodes_most, sized}
 use Rattle.text.specs.Numbers.{word_most}
 use Rattle.text.specs.Lines.{number_line, list_line}
 use Rattle.text.specs.declared.Kind.TheVariants.{Below}
-use Rattle.header.specs.Keys.{Key, Nodes, Faults, Faulty, nodes_key, faults_key, faulty_key}
+use Rattle.header.specs.Keys.{nodes_key, faults_key, faulty_key}
+use Rattle.header.specs.declared.Key.{Key}
+use Rattle.header.specs.declared.Key.TheVariants.{Nodes, Faults, Faulty}
 use Rattle.header.specs.declared.Header.{Header}
 use Rattle.header.specs.declared.BadLine.{BadLine}
 

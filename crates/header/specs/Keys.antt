@@ -12,9 +12,3 @@ faults_key = 102 ∷ 61 ∷ []
 -- faulty=
 abbrev pub faulty_key : List ℕ
 faulty_key = 102 ∷ 97 ∷ 117 ∷ 108 ∷ 116 ∷ 121 ∷ 61 ∷ []
-
--- the key of a header line
-pub data Key : Type 0 where
-  Nodes : Key
-  Faults : Key
-  Faulty : Key

@@ -10,6 +10,14 @@ pub use heading::read_header;
 // Header lines: one for each key.
 pub const HEADER_SIZE: usize = 3;
 
+// The keys of the header lines; `header.Header.header_keys` has them in their order.
+#[derive(Clone, Copy, Debug, PartialEq, Eq)]
+pub enum Key {
+    Nodes,
+    Faults,
+    Faulty,
+}
+
 // The number of a schedule's first bad line; 0 where the file is too long, as the document prints it.
 #[derive(Clone, Copy, Debug, PartialEq, Eq)]
 pub struct BadLine(pub usize);

@@ -22,22 +22,20 @@ pub extern "C" fn raudokiin_new(n: usize, f: usize, me: usize) -> Made
     Made::from(Node::new(n, f, me))
 }
 
-// `node::open`, on a copy of the node.
+// `node::open`, on the copy of the node that C hands over.
 #[unsafe(no_mangle)]
-pub extern "C" fn raudokiin_open(node: Node, tray: Tray, outbox: &mut [u8]) -> Opened
+pub extern "C" fn raudokiin_open(mut node: Node, tray: Tray, outbox: &mut [u8]) -> Opened
     ensures { TellsOpen node tray outbox.old result outbox.new }
 {
-    let mut after = node;
-    let answer = node::open(&mut after, &tray, outbox);
-    Opened::of(answer, after)
+    let answer = node::open(&mut node, &tray, outbox);
+    Opened::of(answer, node)
 }
 
-// `step::step`, on a copy of the node.
+// `step::step`, on the copy of the node that C hands over.
 #[unsafe(no_mangle)]
-pub extern "C" fn raudokiin_step(node: Node, inbox: &[u8], outbox: &mut [u8]) -> Stepped
+pub extern "C" fn raudokiin_step(mut node: Node, inbox: &[u8], outbox: &mut [u8]) -> Stepped
     ensures { TellsStep node inbox.now outbox.old result outbox.new }
 {
-    let mut after = node;
-    let answer = step::step(&mut after, inbox, outbox);
-    Stepped::of(answer, after)
+    let answer = step::step(&mut node, inbox, outbox);
+    Stepped::of(answer, node)
 }

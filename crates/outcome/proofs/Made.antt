@@ -45,7 +45,7 @@ close_holds s r after h k q =
     let p : after ≡ onto (if_done number (new_log_of s []) []) (replicate decided_most 0) = h.output_is ∙ done_onto number (new_log_of s []) (replicate decided_most 0) in
     λ i. record { count = e i; entries = p i }
 
-pub held_log : (log : List ℕ) → held_in (held_as log) ≡ log
+pub held_log : (log : List ℕ) → held_in {N = decided_most} (held_as log) ≡ log
 held_log log = take_at log (drop (length log) (replicate decided_most 0)) (length log) refl
 
 -- a close that is not refused has room for the new log

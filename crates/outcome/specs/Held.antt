@@ -11,19 +11,19 @@ use Rattle.outcome.specs.Marks.{distinct, place_in}
 use Rattle.outcome.specs.Signing.{counted_with}
 use Rattle.outcome.specs.declared.marks.Numbers.{Numbers}
 
--- a log in its places, those not used are zero
-abbrev pub held_as : List ℕ → Places decided_most
+-- a log in its places, as many as the decisions may have entries; those not used are zero
+abbrev pub held_as : {N : ℕ} → List ℕ → Places N
 held_as log = record { count = length log; entries = onto log (replicate decided_most 0) }
 
 -- the log held for node j
-abbrev pub held_at : List (Places decided_most) → ℕ → Places decided_most
+abbrev pub held_at : {N : ℕ} → List (Places N) → ℕ → Places N
 held_at logs j = get_or logs j (record { count = 0; entries = [] })
 
-abbrev pub log_at : List (Places decided_most) → ℕ → List ℕ
+abbrev pub log_at : {N : ℕ} → List (Places N) → ℕ → List ℕ
 log_at logs j = held_in (held_at logs j)
 
 -- for each node below n its log is held
-abbrev pub AllHeld : (log : ℕ → List ℕ) (n : ℕ) (logs : List (Places decided_most)) → Type 0
+abbrev pub AllHeld : {N : ℕ} → (log : ℕ → List ℕ) (n : ℕ) (logs : List (Places N)) → Type 0
 AllHeld log n logs = (j : ℕ) → j < n → held_at logs j ≡ held_as (log j)
 
 -- the logs of the correct nodes below n are numbered

@@ -34,12 +34,13 @@ fn play_good(run: &Run) -> Result<[Node; NODES_MOST], BadLine>
         let Some(send) = contents::send_at(run.s, k) else {
             unreachable!()
         };
-        here = run.advance_to(here, send.round);
+        run.advance_to(&mut here, send.round);
         if breaks_send(run, &here.nodes, send) {
             return Err(BadLine(HEADER_SIZE + 1 + run.header.n + k));
         }
     }
-    Ok(run.advance_to(here, run.header.f + 2).nodes)
+    run.advance_to(&mut here, run.header.f + 2);
+    Ok(here.nodes)
 }
 
 // The nodes after round f + 1, or the first bad line: of the form, else of the first send that breaks the rule.

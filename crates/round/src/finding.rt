@@ -3,13 +3,14 @@ ghost use Rattle.round.specs.Found.{Begin, TakeInbox, TakeMessage};
 
 use keeping::{Found, has_room, is_heard};
 use node::{Kept, Node};
+use std::array;
 
 // Before the first vote: what was kept, and no masks.
-pub fn begin(kept: [Kept; Node::NODES_MOST]) -> [Found; Node::NODES_MOST]
-    ensures { Begin kept result }
+pub fn begin(kept: &[Kept; Node::NODES_MOST]) -> [Found; Node::NODES_MOST]
+    ensures { Begin kept.now result }
 {
-    kept.map(|its| Found {
-        kept: its,
+    array::from_fn(|p| Found {
+        kept: kept[p],
         first: 0,
         second: 0,
     })

@@ -12,7 +12,6 @@ use header::Header;
 use inboxes::{INBOX_MOST, Outbox};
 use node::Node;
 use rules::NODES_MOST;
-use std::array;
 use wire::MESSAGE_MOST;
 
 // The run of a schedule, which starts with this header.
@@ -104,30 +103,29 @@ impl Run<'_> {
         self.step_node(here, i)
     }
 
-    // The run after the opening or the round that is next.
-    fn advance(&self, here: &Standing) -> Standing
-        requires { here.now.next + 1 < 2 ^ 64 }
-        ensures next { result.next ≡ here.now.next + 1 }
+    // The run goes on by the opening or the round that is next: each node by where the run stood before it.
+    fn advance(&self, at: &mut Standing)
+        requires { at.old.next + 1 < 2 ^ 64 }
+        ensures next { at.new.next ≡ at.old.next + 1 }
         ensures stands { let h = self.now.header in
-            Reached self.now.s.now h here.now → result ≡ standing (hall_of self.now.s.now h.n h.f) (here.now.next + 1) }
+            Reached self.now.s.now h at.old → at.new ≡ standing (hall_of self.now.s.now h.n h.f) (at.old.next + 1) }
     {
-        let stood: [Stood; NODES_MOST] = array::from_fn(|i| self.next_node(here, i));
-        Standing {
-            next: here.next + 1,
-            nodes: stood.map(|its| its.node),
-            outboxes: stood.map(|its| its.outbox),
+        let here = *at;
+        for i in 0..NODES_MOST {
+            let stood = self.next_node(&here, i);
+            at.nodes[i] = stood.node;
+            at.outboxes[i] = stood.outbox;
         }
+        at.next += 1;
     }
 
-    // The run before this round, which is the next or a later one.
-    pub fn advance_to(&self, here: Standing, round: usize) -> Standing
-        ensures { Advances self.now.s.now self.now.header here round result }
+    // The run goes on until before this round, which is the next or a later one.
+    pub fn advance_to(&self, at: &mut Standing, round: usize)
+        ensures { Advances self.now.s.now self.now.header at.old round at.new }
     {
-        let mut at = here;
         // No count of its own: where the run stands says which round is next.
         while at.next < round {
-            at = self.advance(&at);
+            self.advance(at);
         }
-        at
     }
 }

@@ -8,6 +8,7 @@ ghost use Rattle.step.specs.Step.{Step, in_rounds, primaries_in};
 use crate::Stepped;
 use node::Node;
 use rules::Refusal;
+use std::array;
 
 // The number below which are the primaries whose batches are passed on: in round f + 1 there are none.
 fn primaries_in(node: &Node) -> usize
@@ -18,6 +19,8 @@ fn primaries_in(node: &Node) -> usize
 }
 
 // The step of a sound node in a round, by an inbox that is well cut.
+// Out of line: what a function holds is zeroed where it begins, and a refusal needs none of it.
+#[inline(never)]
 fn take(
     node: &mut Node,
     inbox: &[u8],
@@ -27,11 +30,11 @@ fn take(
     requires { (sound_node node.old ≡ true) × (in_rounds node.old ≡ true) × (well_cut node.old.n inbox.now ≡ true) × (unreadable ≡ unreadable_senders node.old.n node.old.me inbox.now) }
     ensures { Step node.old inbox.now outbox.old result node.new outbox.new }
 {
-    let mut found = round::begin(node.kept);
+    let mut found = round::begin(&node.kept);
     round::take_inbox(node, &mut found, inbox, unreadable);
     let primaries = primaries_in(node);
     let length = passing::pass_on(node, &found[..primaries], outbox)?;
-    node.kept = found.map(|its| its.kept);
+    node.kept = array::from_fn(|p| found[p].kept);
     node.phase += 1;
     Ok(Stepped { length, unreadable })
 }

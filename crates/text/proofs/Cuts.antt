@@ -6,7 +6,7 @@ use mathlib.Core.Path.{◌∙◌, ◌≡◌, ap, ap₂, refl, sym}
 use native.Mathlib.Omega.{arith}
 use borrow.Author.Tests.{le-ltb, lt-ltb, ltb-true}
 use lib.Dec.{eqb, leb-suc-suc, ltb}
-use lib.ListN.{drop, get_or, length, take}
+use lib.ListN.{drop, drop_of_length-le, get_or, length, length-drop, take}
 use lib.Seq.{drop-drop, length-take-le}
 use Rattle.text.specs.Lines.{line_len, lines_of}
 use Rattle.text.specs.Lists.{ahead}
@@ -88,6 +88,13 @@ module _ (s : List ℕ) (k : ℕ) (e : k ≡ place_of lf s) where
 pub lines_turn : (s rest : List ℕ) (k e : ℕ) → e ≡ line_len rest → lines_of rest ≡ drop k (lines_of s) → lines_of (drop e rest) ≡ drop (k + 1) (lines_of s)
 lines_turn s rest k e ee h =
     ap (λ (j : ℕ). lines_of (drop j rest)) ee ∙ sym (lines_rest rest) ∙ ap (drop 1) h ∙ drop-drop 1 k (lines_of s)
+
+-- past the end of a text there are no lines, so none before a later line either
+pub lines_over : (s rest : List ℕ) (i k : ℕ) → length rest ≡ 0 → i ≤ k → lines_of rest ≡ drop i (lines_of s) → lines_of rest ≡ drop k (lines_of s)
+lines_over s rest i k h l e =
+    let n : lines_of rest ≡ [] = lines_none rest h in
+    let m : length (lines_of s) ≤ i = omega (arith, ap length (sym e ∙ n), length-drop i (lines_of s)) in
+    n ∙ sym (drop_of_length-le (lines_of s) {i = k} (omega arith))
 
 -- a text that is not empty has lines
 pub lines_some : (s : List ℕ) → 0 < length s → length (lines_of s) ≡ 0 → ⊥

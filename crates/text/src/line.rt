@@ -32,6 +32,9 @@ pub fn past_lines(s: &[u8], k: usize) -> &[u8]
 {
     let mut rest = s;
     for _ in 0..k {
+        if rest.is_empty() {
+            return rest;
+        }
         rest = &rest[line_len(rest)..];
     }
     rest

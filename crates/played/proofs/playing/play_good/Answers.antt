@@ -13,7 +13,7 @@ use Rattle.played.proofs.Sends.{send_at, sent_numbers, never_none, send_fits, se
 use Rattle.standing.proofs.Standings.{starts, stands_there, nodes_above, nodes_most_lem}
 use Rattle.played.proofs.Breaches.{at_first, breaks_here, breaks_later, none_left, rule_told, is_breach, is_played}
 use Rattle.played.proofs.playing.play_good.Goals as goal
-use Rattle.played.proofs.playing.play_good.Goals.{After-advance_to-here, After-breaks_send, In-Some, Start}
+use Rattle.played.proofs.playing.play_good.Goals.{After-advance_to, After-breaks_send, In-Some, Start}
 
 -- the sizes are small
 few : (c : goal.Start) → let h = c.args.run.now.header in (h.n ≤ 16) × (h.f < 16)
@@ -33,13 +33,13 @@ numbers : (c : goal.In-Some)
 numbers c = sent_numbers _ c.loop-k.k _ (inside c) (sym c.in-Some.is ∙ c.send_at.ensures)
 
 -- where the run stands before its round
-stands : (c : goal.After-advance_to-here)
+stands : (c : goal.After-advance_to)
     → let r = c.args.run.now in
     let x = send_at (sends_of r.s.now) c.loop-k.k in
-    c.loop-k.k < length (sends_of r.s.now) → c.in-Some.send.round ≡ x.round → c.advance_to-here.result ≡ standing (hall_of r.s.now r.header.n r.header.f) c.in-Some.send.round
+    c.loop-k.k < length (sends_of r.s.now) → c.in-Some.send.round ≡ x.round → c.advance_to.new.at ≡ standing (hall_of r.s.now r.header.n r.header.f) c.in-Some.send.round
 stands c there same =
     let l = c.loop-k in
-    c.advance_to-here.ensures
+    c.advance_to.ensures
     (record { form = c.requires; stands = l.invariant.stands })
     (omega (arith, same, l.invariant.early there))
     (omega (arith, same, (send_fits _ _ c.requires l.k there).round_most))
@@ -49,9 +49,9 @@ rule : (c : goal.After-breaks_send)
     → let r = c.args.run.now in
     let hall = hall_of r.s.now r.header.n r.header.f in
     let x = send_at (sends_of r.s.now) c.loop-k.k in
-    c.loop-k.k < length (sends_of r.s.now) → c.advance_to-here.result ≡ standing hall c.in-Some.send.round → c.breaks_send.result ≡ breaks_rule hall x.round x.message
+    c.loop-k.k < length (sends_of r.s.now) → c.advance_to.new.at ≡ standing hall c.in-Some.send.round → c.breaks_send.result ≡ breaks_rule hall x.round x.message
 rule c there before =
-    rule_told _ _ c.requires c.loop-k.k there _ (sym c.in-Some.is ∙ c.send_at.ensures) c.advance_to-here.result before _
+    rule_told _ _ c.requires c.loop-k.k there _ (sym c.in-Some.is ∙ c.send_at.ensures) c.advance_to.new.at before _
     c.breaks_send.ensures
 
 pub loop-k-init : goal.loop-k-init
@@ -89,7 +89,7 @@ returns-then-breaks_send c =
     let l = c.loop-k in
     let at = goal.at.returns-then-breaks_send c in
     let there = inside at.In-Some in
-    let breaks = rule at.After-breaks_send there (stands at.After-advance_to-here there (numbers at.In-Some).0) in
+    let breaks = rule at.After-breaks_send there (stands at.After-advance_to there (numbers at.In-Some).0) in
     is_breach r.s.now r.header _ (l.invariant.rest ∙ breaks_here r.s.now r.header l.k there _ breaks c.if-breaks_send.true) (omega arith)
 
 pub loop-k-preserved : goal.loop-k-preserved
@@ -99,7 +99,7 @@ loop-k-preserved c =
     let at = goal.at.loop-k-preserved c in
     let there = inside at.In-Some in
     let same = (numbers at.In-Some).0 in
-    let e = stands at.After-advance_to-here there same in
+    let e = stands at.After-advance_to there same in
     let z = ap (λ (x : Standing). x.next) e in
     record {
       rest = l.invariant.rest ∙ breaks_later r.s.now r.header l.k there _ (rule at.After-breaks_send there e) c.if-breaks_send.false;
@@ -115,7 +115,7 @@ pub returns : goal.returns
 returns c =
     let r = c.args.run.now in
     let l = c.loop-k in
-    let last = c.advance_to.ensures
+    let last = c.advance_to-2.ensures
     (record { form = c.requires; stands = l.invariant.stands })
     (omega (arith, l.invariant.most)) (omega arith) in
     is_played r.s.now r.header _ (l.invariant.rest ∙ none_left r.s.now r.header l.k (omega (arith, c.send_count-k-end.ensures))) last

@@ -1,5 +1,6 @@
 -- A sound node in a round finds the votes of its well-cut inbox; what is passed on of it is written where there is room.
-use Rattle.std.proofs.Common.{◌≡◌, [], ◌≤◌, length, take, sym, arith, rules}
+use Rattle.std.proofs.Common.{ℕ, ◌≡◌, [], ◌≤◌, ◌<◌, length, get_or, take, sym, arith, rules}
+use borrow.Author.Tests.{tests}
 use Rattle.std.proofs.lemmas.Result.{err_from_is_err_and}
 use lib.Seq.{length-take-le}
 use Rattle.node.proofs.Sound.{sound_sizes}
@@ -58,7 +59,11 @@ pub returns : goal.returns
 returns c =
     let a = c.args in
     let size : length c.take_inbox.new.found ≡ 16 = search rules in
-    let kept = mapped (λ (x : Found). x.kept) _ (found_at [] 0) _ c.take_inbox.new.found c.map-node.result 16 size c.map-node.ensures.items (λ x y p q k. search rules) in
+    let none = found_at [] 0 in
+    let found = c.take_inbox.new.found in
+    let each : (p : ℕ) → p < 16 → get_or c.from_fn-node.result p none.kept ≡ (get_or found p none).kept =
+    λ p l. let called = c.from_fn-node.ensures.items.at p none.kept l in search (rules, tests) in
+    let kept = mapped (λ (x : Found). x.kept) none found c.from_fn-node.result 16 size c.from_fn-node.ensures.items.long each in
     is_stepped a.node.now a.inbox.now a.outbox.now c.requires.0 c.requires.1 c.requires.2 _
     (said_so (goal.at.returns c).After-primaries_in-primaries).says _ _ _ _ c.in_ok-length.ensures c.requires.3
     (next_node a.node.now a.inbox.now c.requires.0 _ _ _ c.requires.2 c.requires.3 c.begin-found.ensures c.take_inbox.ensures _ kept)

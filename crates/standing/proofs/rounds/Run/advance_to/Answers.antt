@@ -9,7 +9,7 @@ use Rattle.standing.proofs.rounds.Run.advance_to.Goals as goal
 pub loop-at-preserved : goal.loop-at-preserved
 loop-at-preserved c =
     let r = c.args.self.now in
-    let e = c.advance-at.ensures in (
+    let e = c.advance.ensures in (
       λ l. omega (arith, e.next),
       λ h.
           let here = c.loop-at.invariant.1 h in
